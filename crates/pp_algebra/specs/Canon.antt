@@ -1,0 +1,69 @@
+-- Canonical numbering: the row of a pattern, its variables numbered from 0 by first occurrence. And which trees and rows are the same.
+use Rattle.std.specs.Prelude.{◌≡◌, ℕ, suc, Bool, true, false, cond, ◌&&◌, ◌||◌, nat_eq, List, [], ◌∷◌, ◌++◌, map, Option, Some, None}
+use Rattle.std.specs.Ordering.{int_eq}
+use Rattle.std.specs.FinSet as set
+use Rattle.pp_algebra.specs.Terms.{Tree, int, node, variable, Trees, none, more, put_all, variables_all}
+use Rattle.pp_algebra.specs.Rows.{Domain, Pattern, Row}
+
+abbrev pub has : {V : Type 0} → (V → V → Bool) → List V → V → Bool
+has same [] v = false
+has same (w ∷ ws) v = same w v || has same ws v
+
+-- the first place of v
+abbrev pub place : {V : Type 0} → (V → V → Bool) → List V → V → ℕ
+place same [] v = 0
+place same (w ∷ ws) v = cond (same w v) 0 (suc (place same ws v))
+
+-- `seen`, and then each one of the list that is new, in order of first occurrence
+abbrev pub firsts : {V : Type 0} → (V → V → Bool) → List V → List V → List V
+firsts same seen [] = seen
+firsts same seen (v ∷ vs) = cond (has same seen v) (firsts same seen vs) (firsts same (seen ++ v ∷ []) vs)
+
+-- none stands twice
+abbrev pub Distinct : {V : Type 0} → (V → V → Bool) → List V → Type 0
+Distinct same [] = Unit {0}
+Distinct same (v ∷ vs) = (has same vs v ≡ false) × Distinct same vs
+
+abbrev pub canon : {V : Type 0} → (V → V → Bool) → Pattern V → Row
+canon same p =
+    let vs = firsts same [] (variables_all p.columns) in
+    record { columns = put_all (λ v. variable (place same vs v)) p.columns; domains = map p.domains vs }
+
+abbrev mutual
+  pub same_tree : Tree ℕ → Tree ℕ → Bool
+  same_tree (int n) (int m) = int_eq n m
+  same_tree (int n) (node g us) = false
+  same_tree (int n) (variable w) = false
+  same_tree (node f ts) (int m) = false
+  same_tree (node f ts) (node g us) = nat_eq f g && same_trees ts us
+  same_tree (node f ts) (variable w) = false
+  same_tree (variable v) (int m) = false
+  same_tree (variable v) (node g us) = false
+  same_tree (variable v) (variable w) = nat_eq v w
+
+  pub same_trees : Trees ℕ → Trees ℕ → Bool
+  same_trees none none = true
+  same_trees none (more u us) = false
+  same_trees (more t ts) none = false
+  same_trees (more t ts) (more u us) = same_tree t u && same_trees ts us
+
+abbrev pub same_list : List (Tree ℕ) → List (Tree ℕ) → Bool
+same_list [] [] = true
+same_list [] (u ∷ us) = false
+same_list (t ∷ ts) [] = false
+same_list (t ∷ ts) (u ∷ us) = same_tree t u && same_list ts us
+
+abbrev pub same_domain : Option Domain → Option Domain → Bool
+same_domain None None = true
+same_domain None (Some e) = false
+same_domain (Some d) None = false
+same_domain (Some d) (Some e) = set.is_subset d e && set.is_subset e d
+
+abbrev pub same_domains : List (Option Domain) → List (Option Domain) → Bool
+same_domains [] [] = true
+same_domains [] (e ∷ es) = false
+same_domains (d ∷ ds) [] = false
+same_domains (d ∷ ds) (e ∷ es) = same_domain d e && same_domains ds es
+
+abbrev pub same_row : Row → Row → Bool
+same_row r q = same_trees r.columns q.columns && same_domains r.domains q.domains

@@ -1,0 +1,7 @@
+pub mod Terms
+pub mod Rows
+pub mod Covers
+pub mod Canon
+pub mod Least
+pub mod Solve
+pub mod Laws

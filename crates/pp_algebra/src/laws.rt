@@ -1,0 +1,35 @@
+//! The laws that make the definitions trustworthy.
+ghost use Rattle.std.specs.Prelude.{ℕ, ◌⊎◌};
+ghost use Rattle.pp_algebra.specs.Laws.{CoversItself, CoversThrough, CoversBothWays, LeastIsCanonical, LeastCovers, LeastIsLeast, SolvedOnce, RowsSolve, PairsSolve};
+
+/// Covering is an order: each row covers itself, what covers a covering row covers what that covers, and
+/// canonical rows that cover each other are equal.
+pub fn covering_is_an_order()
+    ensures itself { CoversItself }
+    ensures through { CoversThrough }
+    ensures both_ways { CoversBothWays }
+{
+}
+
+/// The least generalisation of rows is canonical, covers each of them, and is covered by whatever covers each
+/// of them.
+pub fn generalisation_is_least()
+    ensures canonical { LeastIsCanonical }
+    ensures covers { LeastCovers }
+    ensures least { LeastIsLeast }
+{
+}
+
+/// Equations and memberships have at most one most general row.
+pub fn solving_is_unique()
+    ensures one_kind { SolvedOnce ℕ }
+    ensures two_kinds { SolvedOnce (ℕ ⊎ ℕ) }
+{
+}
+
+/// Equations and memberships have a most general row, or nothing meets them.
+pub fn solving_ends()
+    ensures rows { RowsSolve }
+    ensures pairs { PairsSolve }
+{
+}

@@ -1,0 +1,8 @@
+//! The meaning of terms, rows, covering, least generalisation and solving, with their laws.
+//!
+//! The crate is read by contracts alone: its functions have no code, and each one's contract is a law.
+#![tactic(auto)]
+
+mod laws;
+
+pub use laws::{covering_is_an_order, generalisation_is_least, solving_ends, solving_is_unique};

@@ -1,0 +1,6 @@
+pub mod Once
+pub mod Exists
+pub mod Trees
+pub mod Paths
+pub mod Covered
+pub mod Reached

@@ -1,0 +1,12 @@
+pub mod BuiltIns
+pub mod Goals
+pub mod Selection
+pub mod Ways
+pub mod Trees
+pub mod Trace
+pub mod Leaves
+pub mod Verdicts
+pub mod Findings
+pub mod Paths
+pub mod Reach
+pub mod Laws

@@ -1,0 +1,8 @@
+//! The meaning of a search: programs, configurations, search trees, leaves, findings and verdicts, with their laws.
+//!
+//! The crate is read by contracts alone: its functions have no code, and each one's contract is a law.
+#![tactic(auto)]
+
+mod laws;
+
+pub use laws::{search_is_total, search_is_unique};
