@@ -1,5 +1,5 @@
 -- Goals, clauses and configurations: what a branch of a search still has to do, and what it has bound so far.
-use Rattle.std.specs.Prelude.{ℕ, List, [], ◌∷◌, map, Option}
+use Rattle.std.specs.Prelude.{ℕ, Bool, cond, ◌&&◌, nat_eq, List, [], ◌∷◌, map, Option}
 use Rattle.pp_algebra.specs.Terms.{Tree, node, Trees, none, more, put_all}
 use Rattle.pp_algebra.specs.Rows.{Domain, Row}
 use Rattle.pp_sld.specs.BuiltIns.{Test}
@@ -28,6 +28,14 @@ pub record Clause : Type 0 where
 -- the clauses of each predicate, in textual order
 abbrev pub Program : Type 0
 Program = Predicate → List Clause
+
+abbrev pub same_predicate : Predicate → Predicate → Bool
+same_predicate p q = nat_eq p.name q.name && nat_eq p.arity q.arity
+
+-- the program of a list of clauses, each with the predicate of its head
+abbrev pub program_of : List (Predicate × Clause) → Program
+program_of [] p = []
+program_of (c ∷ cs) p = cond (same_predicate c.0 p) (c.1 ∷ program_of cs p) (program_of cs p)
 
 -- the state of a branch: the goals to do, the values of the call's variables, the domains, the depth left
 pub record Config : Type 0 where

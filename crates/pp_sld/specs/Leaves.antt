@@ -1,10 +1,11 @@
 -- The search of one goal: its root, its call, and the rows of its answers and loose ends.
-use Rattle.std.specs.Prelude.{ℕ, zero, suc, nat_eq, List, [], ◌∷◌, ◌++◌, map, length}
+use Rattle.std.specs.Prelude.{◌≡◌, ℕ, zero, suc, nat_eq, List, [], ◌∷◌, ◌++◌, map, length}
 use Rattle.pp_algebra.specs.Terms.{variable, Trees, none, more}
 use Rattle.pp_algebra.specs.Rows.{Row, domain_at}
 use Rattle.pp_algebra.specs.Canon.{canon}
-use Rattle.pp_sld.specs.Goals.{Shape, Config}
-use Rattle.pp_sld.specs.Trace.{Mark, answers, loose_ends}
+use Rattle.pp_sld.specs.Goals.{Shape, Program, Config}
+use Rattle.pp_sld.specs.Trees.{Search, IsSearch}
+use Rattle.pp_sld.specs.Trace.{Mark, trace, answers, loose_ends}
 
 -- the variables from `first` on, `n` of them
 abbrev pub variables_from : ℕ → ℕ → Trees ℕ
@@ -33,3 +34,10 @@ answer_rows ms = map leaf_row (answers ms)
 
 abbrev pub loose_rows : List Mark → List Row
 loose_rows ms = map leaf_row (loose_ends ms)
+
+-- the rows of the answers and of the loose ends of a configuration, from left to right, with nothing cut short
+pub record HasLeaves (clauses : Program) (c : Config) (A C : List Row) : Type 0 where
+  pub tree : Search
+  pub is_tree : IsSearch clauses c tree
+  pub answers : answer_rows (trace tree) ≡ A
+  pub loose_ends : loose_rows (trace tree) ≡ C
