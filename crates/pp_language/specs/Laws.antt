@@ -1,0 +1,9 @@
+-- The laws of the language, as statements.
+use Rattle.std.specs.Prelude.{◌≡◌, List}
+use Rattle.pp_language.specs.declared.token.Token.{Token}
+use Rattle.pp_language.specs.Texts.{Text}
+use Rattle.pp_language.specs.Sentences.{Ending, AreSentences}
+
+-- a text has one list of sentences and one ending
+abbrev pub HasOneReading : Type 0
+HasOneReading = (text : Text) (ss us : List (List Token)) (e f : Ending) → AreSentences text ss e → AreSentences text us f → (ss ≡ us) × (e ≡ f)

@@ -1,0 +1,10 @@
+//! The meaning of a text: its tokens, what it writes, and what is printed of a run.
+//!
+//! The crate is read by contracts: beside a few plain types its functions have no code, and each one's contract is a law.
+#![tactic(auto)]
+
+mod status;
+mod token;
+
+pub use status::Status;
+pub use token::{Kind, Token};
