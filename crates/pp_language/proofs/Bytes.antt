@@ -26,7 +26,7 @@ below low high b h = and_left (nat_le low b) (nat_le b high) (lt-leb low b h)
 pub above : (low high b : ℕ) → high < b → is_between low high b ≡ false
 above low high b h = and_right (nat_le low b) (nat_le b high) (lt-leb b high h)
 
-no_mark : (b : ℕ) → (b ≡ 40 → ⊥) → (b ≡ 41 → ⊥) → (b ≡ 91 → ⊥) → (b ≡ 93 → ⊥) → (b ≡ 44 → ⊥) → (b ≡ 46 → ⊥) → (b ≡ 58 → ⊥) → (b ≡ 63 → ⊥) → (b ≡ 61 → ⊥) → (b ≡ 35 → ⊥) → begins_mark b ≡ false
+pub no_mark : (b : ℕ) → (b ≡ 40 → ⊥) → (b ≡ 41 → ⊥) → (b ≡ 91 → ⊥) → (b ≡ 93 → ⊥) → (b ≡ 44 → ⊥) → (b ≡ 46 → ⊥) → (b ≡ 58 → ⊥) → (b ≡ 63 → ⊥) → (b ≡ 61 → ⊥) → (b ≡ 35 → ⊥) → begins_mark b ≡ false
 no_mark b h1 h2 h3 h4 h5 h6 h7 h8 h9 h10 = or_from _ _ (ne_eqb b 40 h1) (or_from _ _ (ne_eqb b 41 h2) (or_from _ _ (ne_eqb b 91 h3) (or_from _ _ (ne_eqb b 93 h4) (or_from _ _ (ne_eqb b 44 h5) (or_from _ _ (ne_eqb b 46 h6) (or_from _ _ (ne_eqb b 58 h7) (or_from _ _ (ne_eqb b 63 h8) (or_from _ _ (ne_eqb b 61 h9) (or_from _ _ (ne_eqb b 35 h10) refl)))))))))
 
 -- what a byte begins if it begins a number, a word of lower case, a quoted atom, a variable or a mark: no more than one

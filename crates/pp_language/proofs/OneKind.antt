@@ -33,10 +33,14 @@ begins_if_number b bs h = ⊎_elim
   (λ e. or_right (is_digit b) (nat_eq b 45) (and_parts (nat_eq b 45) (are_digits bs) e).0)
   (or_cases (are_digits (b ∷ bs)) (nat_eq b 45 && are_digits bs) h)
 
+number_is : (bs : Text) → is_number_text bs ≡ true → kind_of bs ≡ Integer
+unfolding kind_of
+number_is [] h = cc
+number_is (b ∷ bs) h = cond-true (begins_number b) _ _ (begins_if_number b bs h)
+
 kind_is : (k : Kind) (bs : Text) → spells k bs ≡ true → kind_of bs ≡ k
 unfolding kind_of mark_kind
-kind_is Integer [] h = cc
-kind_is Integer (b ∷ bs) h = cond-true (begins_number b) _ _ (begins_if_number b bs (and_parts (is_number_text (b ∷ bs)) _ h).0)
+kind_is Integer bs h = number_is bs (and_parts (is_number_text bs) _ h).0
 kind_is Atom [] h = cc
 kind_is Atom (b ∷ bs) h =
     let p = and_parts (is_word_from is_lower (b ∷ bs)) (not (same_text (b ∷ bs) (codes "infers"))) h in
@@ -74,3 +78,6 @@ kind_is Differ bs h = subst (λ t. kind_of t ≡ Differ) (sym (same_text-true bs
 
 pub same_kind : (k h : Kind) (bs : Text) → spells k bs ≡ true → spells h bs ≡ true → k ≡ h
 same_kind k h bs p q = sym (kind_is k bs p) ∙ kind_is h bs q
+
+pub number_kind : (k : Kind) (bs : Text) → is_number_text bs ≡ true → spells k bs ≡ true → k ≡ Integer
+number_kind k bs n h = sym (kind_is k bs h) ∙ number_is bs n

@@ -74,7 +74,7 @@ fn word(rest: &[u8]) -> (Kind, usize)
     ensures { IsFront rest.now result.0 result.1 }
 {
     let size = word_size(rest);
-    let kind = if &rest[..size] == b"infers" { Kind::Infers } else { Kind::Atom };
+    let kind = if &rest[..size] == b"infers".as_slice() { Kind::Infers } else { Kind::Atom };
     (kind, size)
 }
 
@@ -110,7 +110,8 @@ fn quoted(rest: &[u8]) -> Option<usize>
     requires begins { slice_index rest.now 0 ≡ 39 }
     ensures { MatchOption result (HasNoFront rest.now) (IsFront rest.now Kind.Quoted) }
 {
-    quoted_rest(&rest[1..]).map(|size| 1 + size)
+    let size = quoted_rest(&rest[1..])?;
+    Some(1 + size)
 }
 
 /// The byte at a place, or 0 behind the end: 0 stands in no token.
