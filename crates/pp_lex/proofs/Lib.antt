@@ -5,3 +5,5 @@ pub mod Runs
 pub mod Fronts
 pub mod Integers
 pub mod Marks
+pub mod Places
+pub mod Collected
