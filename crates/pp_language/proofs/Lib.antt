@@ -3,3 +3,5 @@ pub mod Gaps
 pub mod Bytes
 pub mod Forms
 pub mod OneKind
+pub mod OneToken
+pub mod OneReading
