@@ -1,16 +1,15 @@
 -- Tokens that a text begins with, by its first byte.
-use Rattle.std.proofs.Common.{◌≡◌, ℕ, zero, suc, ◌+◌, ◌-◌, ◌<◌, ◌≤◌, Bool, true, false, not, ◌&&◌, cond, nat_eq, nat_le, List, [], ◌∷◌, length, take, drop, get_or, refl, ap, sym, ◌∙◌, subst, ⊎_elim, arith}
+use Rattle.std.proofs.Common.{◌≡◌, ℕ, zero, suc, ◌+◌, ◌<◌, ◌≤◌, true, false, [], ◌∷◌, length, take, drop, get_or, sym, ◌∙◌, subst, arith}
 use Rattle.std.specs.Prelude.{codes}
 use Rattle.std.specs.List.{list_all, prefix_len}
-use Rattle.std.proofs.lemmas.Bool.{and_from, and_parts, both_ways, not_from_false, or_left, or_right, or_cases, eqb-true, cases_lt, cond-false}
+use Rattle.std.proofs.lemmas.Bool.{and_from, both_ways, not_from_false}
 use Rattle.pp_language.specs.declared.token.Kind.{Kind}
-use Rattle.pp_language.specs.declared.token.Kind.TheVariants.{Integer, Atom, Quoted, Infers, Variable}
-use Rattle.pp_language.specs.Texts.{Text, same_text, is_digit, is_lower, is_word}
-use Rattle.pp_language.specs.Kinds.{value_of, greatest_size, is_number_text, are_digits, digits_of, spells, has_form}
-use Rattle.pp_language.proofs.Bytes.{lower_is_word, variable_is_word, Begins, digit_begins}
-use Rattle.pp_language.proofs.Forms.{any_form, has_form-none, spells-any, form_of_digit, form_of_minus, form_of_lower, form_of_variable, form_of_quote, form_of_other}
-use Rattle.pp_language.proofs.OneKind.{same_kind}
-use Rattle.pp_lex.specs.Fronts.{IsFront, HasNoFront, IsLongestRest, HasNoRest, begins_number, begins_variable}
+use Rattle.pp_language.specs.declared.token.Kind.TheVariants.{Atom, Quoted, Infers, Variable}
+use Rattle.pp_language.specs.Texts.{Text, same_text, is_lower, is_word}
+use Rattle.pp_language.specs.Kinds.{spells, has_form}
+use Rattle.pp_language.proofs.Bytes.{lower_is_word, variable_is_word}
+use Rattle.pp_language.proofs.Forms.{any_form, has_form-none, spells-any, form_of_lower, form_of_variable, form_of_quote}
+use Rattle.pp_lex.specs.Fronts.{IsFront, HasNoFront, IsLongestRest, HasNoRest, begins_variable}
 use Rattle.pp_lex.proofs.Runs.{prefix_len-yes, all_in_run, not_all_beyond, run-le}
 
 pub front_from : (b n : ℕ) (r : Text) (k : Kind) → spells k (b ∷ take n r) ≡ true → n ≤ length r → ((m : ℕ) → n < m → m ≤ length r → any_form (b ∷ take m r) ≡ false) → IsFront (b ∷ r) k (suc n)

@@ -1,5 +1,5 @@
 -- Integers that a text begins with: the whole run of digits is one candidate.
-use Rattle.std.proofs.Common.{◌≡◌, ℕ, zero, suc, ◌+◌, ◌-◌, ◌<◌, ◌≤◌, Bool, true, false, ◌&&◌, cond, nat_eq, nat_le, List, [], ◌∷◌, length, take, drop, get_or, refl, ap, sym, ◌∙◌, subst, ⊎_elim, arith, length-take-le}
+use Rattle.std.proofs.Common.{◌≡◌, ℕ, zero, suc, ◌+◌, ◌<◌, ◌≤◌, Bool, true, false, ◌&&◌, nat_eq, nat_le, [], ◌∷◌, length, take, drop, get_or, refl, ap, sym, ◌∙◌, subst, ⊎_elim, arith, length-take-le}
 use Rattle.std.specs.List.{list_all, prefix_len}
 use Rattle.std.specs.Prelude.{Option, MatchOption}
 use Rattle.std.specs.Bool.{then_some}
@@ -8,7 +8,7 @@ use Rattle.std.proofs.lemmas.Bool.{and_from, and_parts, both_ways, or_left, or_r
 use Rattle.pp_language.specs.declared.token.Kind.{Kind}
 use Rattle.pp_language.specs.declared.token.Kind.TheVariants.{Integer}
 use Rattle.pp_language.specs.Texts.{Text, is_digit}
-use Rattle.pp_language.specs.Kinds.{value_of, greatest_size, is_number_text, are_digits, digits_of, spells, has_form}
+use Rattle.pp_language.specs.Kinds.{value_of, greatest_size, is_number_text, are_digits, digits_of, spells}
 use Rattle.pp_language.proofs.Bytes.{digit_begins}
 use Rattle.pp_language.proofs.Forms.{any_form, has_form-none, spells-any, form_of_digit, form_of_minus}
 use Rattle.pp_language.proofs.OneKind.{number_kind}

@@ -1,9 +1,9 @@
 -- Tokens of one text each, by the first bytes.
-use Rattle.std.proofs.Common.{◌≡◌, ℕ, zero, suc, ◌<◌, ◌≤◌, Bool, true, false, not, ◌&&◌, nat_eq, List, [], ◌∷◌, ◌++◌, length, take, get_or, refl, ap, sym, ◌∙◌, subst, arith}
+use Rattle.std.proofs.Common.{◌≡◌, ℕ, zero, suc, ◌<◌, ◌≤◌, true, false, not, ◌&&◌, nat_eq, [], ◌∷◌, ◌++◌, length, take, get_or, sym, subst, arith}
 use Rattle.std.proofs.lemmas.Bool.{both_ways, and_parts, or_parts, not-true}
 use Rattle.pp_language.specs.declared.token.Kind.{Kind}
 use Rattle.pp_language.specs.Texts.{Text, is_digit, is_lower}
-use Rattle.pp_language.specs.Kinds.{spells, has_form}
+use Rattle.pp_language.specs.Kinds.{spells}
 use Rattle.pp_language.proofs.Bytes.{begins_mark, Begins}
 use Rattle.pp_language.proofs.Forms.{any_form, has_form-none, spells-any, form_of_other}
 use Rattle.pp_lex.specs.Fronts.{IsFront, HasNoFront, begins_number, begins_variable, begins_other}

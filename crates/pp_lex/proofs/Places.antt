@@ -1,12 +1,12 @@
 -- What stands at a place of a text, from what the rest of the text begins with.
-use Rattle.std.proofs.Common.{◌≡◌, ℕ, ◌+◌, ◌-◌, ◌<◌, ◌≤◌, Bool, true, false, length, take, drop, refl, ap, sym, ◌∙◌, subst, ⊎_elim, arith, length-drop}
+use Rattle.std.proofs.Common.{◌≡◌, ℕ, ◌+◌, ◌-◌, ◌<◌, ◌≤◌, true, false, length, take, drop, ap, sym, ◌∙◌, subst, ⊎_elim, arith, length-drop}
 use Rattle.std.proofs.lemmas.Bool.{cases_lt}
 use Rattle.std.proofs.lemmas.List.{take_rest, take_all}
 use Rattle.pp_language.specs.declared.token.Kind.{Kind}
 use Rattle.pp_language.specs.declared.token.Token.{Token}
 use Rattle.pp_language.specs.Texts.{Text, part}
 use Rattle.pp_language.specs.Kinds.{spells, has_form}
-use Rattle.pp_language.specs.Tokens.{Gap, clear, gap_from, ends_gap, IsGap, IsLastGap, IsTokenOf, IsBadAfter}
+use Rattle.pp_language.specs.Tokens.{clear, gap_from, ends_gap, IsGap, IsLastGap, IsTokenOf, IsBadAfter}
 use Rattle.pp_language.proofs.Gaps.{gap_from-part}
 use Rattle.pp_lex.specs.Fronts.{IsFront, HasNoFront}
 

@@ -1,5 +1,5 @@
 -- The token that a text begins with.
-use Rattle.std.specs.Prelude.{◌≡◌, ℕ, ◌<◌, ◌≤◌, Bool, true, false, not, IsTrue, ◌&&◌, ◌||◌, nat_eq, length, take}
+use Rattle.std.specs.Prelude.{◌≡◌, ℕ, ◌<◌, ◌≤◌, Bool, false, not, IsTrue, ◌&&◌, ◌||◌, nat_eq, length, take}
 use Rattle.pp_language.specs.declared.token.Kind.{Kind}
 use Rattle.pp_language.specs.Texts.{Text, is_digit, is_lower, is_upper, is_underscore}
 use Rattle.pp_language.specs.Kinds.{is_quoted_rest, spells, has_form}

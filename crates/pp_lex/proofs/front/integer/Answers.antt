@@ -1,11 +1,11 @@
-use Rattle.std.proofs.Common.{◌≡◌, ℕ, ◌+◌, ◌-◌, Bool, true, false, take, drop, length, nat_le, subst, sym, ◌∙◌, ap, arith}
+use Rattle.std.proofs.Common.{◌≡◌, ℕ, true, take, nat_le, subst, sym, ◌∙◌, ap, arith}
 use Rattle.std.specs.List.{list_all, prefix_len}
 use Rattle.std.proofs.lemmas.Bool.{le-ltb}
 use Rattle.std.proofs.lemmas.List.{take_rest}
 use Rattle.pp_language.specs.Texts.{Text, is_digit}
 use Rattle.pp_language.specs.Kinds.{value_of, greatest_size}
 use Rattle.pp_lex.proofs.Runs.{all_in_run}
-use Rattle.pp_lex.proofs.Integers.{IsRun, number_run, number_none, integer_found, integer_missing}
+use Rattle.pp_lex.proofs.Integers.{number_run, number_none, integer_found, integer_missing}
 use Rattle.pp_lex.proofs.front.integer.Goals as goal
 use Rattle.pp_lex.proofs.front.integer.Goals.{then-size-gt0, else-size-gt0}
 

@@ -1,4 +1,4 @@
-use Rattle.std.proofs.Common.{◌≡◌, Bool, true, false, take, subst, sym, ◌∙◌, ap, arith, ◌+◌}
+use Rattle.std.proofs.Common.{sym, arith, ◌+◌}
 use Rattle.std.proofs.lemmas.Bool.{lt-leb}
 use Rattle.pp_language.specs.Kinds.{value_of, greatest_size}
 use Rattle.pp_lex.proofs.Digits.{value_of-take_more, value_of-take-le}

@@ -1,4 +1,4 @@
-use Rattle.std.proofs.Common.{◌≡◌, ℕ, ◌≤◌, take}
+use Rattle.std.proofs.Common.{◌≡◌, ◌≤◌, take}
 use Rattle.pp_language.specs.Kinds.{value_of, greatest_size}
 use Rattle.pp_lex.proofs.front.is_in_range.Given as goal
 

@@ -1,6 +1,6 @@
-use Rattle.std.proofs.Common.{◌≡◌, ℕ, Bool, false, nat_eq, refl, ap, sym, ◌∙◌, lit<}
+use Rattle.std.proofs.Common.{◌≡◌, ℕ, false, nat_eq, refl, ap, sym, ◌∙◌, lit<}
 use Rattle.std.proofs.lemmas.Bool.{ne_eqb}
-use Rattle.pp_language.specs.declared.token.Kind.TheVariants.{Point, Range, Neck, Ask, Equals, InDomain, Less, AtMost, Equal, Differ}
+use Rattle.pp_language.specs.declared.token.Kind.TheVariants.{Left, Right, OpenSquare, CloseSquare, Comma, Point, Range, Neck, Ask, Equals, InDomain, Less, AtMost, Equal, Differ}
 use Rattle.pp_lex.proofs.Marks.{mark1, mark2, mark3, no_mark1, no_mark2, no_mark_byte}
 use Rattle.pp_language.proofs.Bytes.{begins_mark, no_mark}
 use Rattle.pp_lex.proofs.front.mark.Goals as goal
@@ -40,6 +40,38 @@ returns-in-35-eq61-default c = let h = c.in-35-eq61-default in mark2 Equal 35 61
 
 pub returns-in-35-eq92-eq61 : goal.returns-in-35-eq92-eq61
 returns-in-35-eq92-eq61 c = let h = c.in-35-eq92-eq61 in mark3 Differ 35 92 61 c.args.rest.now (lit< tt) (lit< tt) (lit< tt) (at c.byte_at.ensures h.is-0) (at c.byte_at-2.ensures h.is-1) (at c.byte_at-3.ensures h.is-2) refl (λ ds. refl)
+
+pub returns-in-40-default-default : goal.returns-in-40-default-default
+returns-in-40-default-default c = mark1 Left 40 c.args.rest.now (lit< tt) (at c.byte_at.ensures c.in-40-default-default.is-0) refl (λ ds. refl)
+
+pub returns-in-41-default-default : goal.returns-in-41-default-default
+returns-in-41-default-default c = mark1 Right 41 c.args.rest.now (lit< tt) (at c.byte_at.ensures c.in-41-default-default.is-0) refl (λ ds. refl)
+
+pub returns-in-91-default-default : goal.returns-in-91-default-default
+returns-in-91-default-default c = mark1 OpenSquare 91 c.args.rest.now (lit< tt) (at c.byte_at.ensures c.in-91-default-default.is-0) refl (λ ds. refl)
+
+pub returns-in-93-default-default : goal.returns-in-93-default-default
+returns-in-93-default-default c = mark1 CloseSquare 93 c.args.rest.now (lit< tt) (at c.byte_at.ensures c.in-93-default-default.is-0) refl (λ ds. refl)
+
+pub returns-in-44-default-default : goal.returns-in-44-default-default
+returns-in-44-default-default c = mark1 Comma 44 c.args.rest.now (lit< tt) (at c.byte_at.ensures c.in-44-default-default.is-0) refl (λ ds. refl)
+
+pub returns-in_default : goal.returns-in_default
+returns-in_default c =
+    let h = c.in_default in
+    no_mark1 58 c.args.rest.now (lit< tt) (at c.byte_at.ensures h.is-0) refl
+    (λ ds. simp (not_at c.byte_at-2.ensures h.is-1.0.1, not_at c.byte_at-2.ensures h.is-1.1))
+
+pub returns-in_default-2 : goal.returns-in_default-2
+returns-in_default-2 c =
+    let h = c.in_default in
+    no_mark1 63 c.args.rest.now (lit< tt) (at c.byte_at.ensures h.is-0) refl (λ ds. simp (not_at c.byte_at-2.ensures h.is-1.1))
+
+pub returns-in_default-3 : goal.returns-in_default-3
+returns-in_default-3 c =
+    let h = c.in_default in
+    no_mark2 35 92 c.args.rest.now (lit< tt) (lit< tt) (at c.byte_at.ensures h.is-0) (at c.byte_at-2.ensures h.is-1) refl refl
+    (λ ds. simp (not_at c.byte_at-3.ensures h.is-2.1))
 
 pub returns-in_default-4 : goal.returns-in_default-4
 returns-in_default-4 c =

@@ -1,5 +1,4 @@
-use Rattle.std.proofs.Common.{◌≡◌, ℕ, Bool, true, false, not, refl, sym, ◌∙◌, ap, subst}
-use Rattle.std.proofs.lemmas.Bool.{not-true, not-false}
+use Rattle.std.proofs.Common.{not, refl, sym, ◌∙◌, ap}
 use Rattle.pp_lex.proofs.Quotes.{quoted_as, closes, opens, passes, stops, stops_behind, stops_at}
 use Rattle.pp_lex.proofs.front.quoted_rest.Goals as goal
 use Rattle.pp_lex.proofs.front.quoted_rest.Goals.{then-not-is_open-2-via-then-not-is_open-2, then-not-is_open-2-via-else-not-is_open-2+then-not-is_plain, then-byte-eq39+then-not-is_open, then-byte-eq39+else-not-is_open, else-byte-eq39+else-not-is_open-2+else-not-is_plain}

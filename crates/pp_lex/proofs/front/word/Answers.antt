@@ -1,8 +1,7 @@
-use Rattle.std.proofs.Common.{◌≡◌, ℕ, nat_eq, Bool, true, false, take, subst, sym, ◌∙◌, ap}
+use Rattle.std.proofs.Common.{◌≡◌, ℕ, nat_eq, Bool, take, subst, sym, ◌∙◌}
 use Rattle.std.specs.Prelude.{codes}
 use Rattle.std.specs.Cmp.Lexicographic.{pointwise}
-use Rattle.std.specs.List.{prefix_len}
-use Rattle.pp_language.specs.Texts.{Text, same_text, is_word}
+use Rattle.pp_language.specs.Texts.{Text, same_text}
 use Rattle.pp_language.specs.declared.token.Kind.TheVariants.{Atom, Infers}
 use Rattle.pp_lex.specs.Fronts.{IsFront}
 use Rattle.pp_lex.proofs.Fronts.{infers_front, atom_front}

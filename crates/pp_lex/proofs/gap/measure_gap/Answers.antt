@@ -1,5 +1,5 @@
-use Rattle.std.proofs.Common.{rules, ◌≡◌, ℕ, ◌<◌, ◌≤◌, ◌↔◌, IsTrue, length, take, ◌+◌, ◌-◌, ◌*◌, ◌/◌, ◌%◌, Bool, true, false, nat_eq, nat_lt, List, [], ◌∷◌, ◌++◌, slice_index_or, slice_set, bit_and, bit_or, Fits, w8, w32, w64, Bor, MutBor, ap, sym, ◌∙◌}
-use Rattle.pp_language.specs.Tokens.{gap_step, ends_gap, IsGap, IsLastGap}
+use Rattle.std.proofs.Common.{ap, sym, ◌∙◌}
+use Rattle.pp_language.specs.Tokens.{ends_gap}
 use Rattle.pp_lex.specs.Gaps.{gap_of}
 use Rattle.pp_lex.proofs.Gaps.{only_clear, read_clear, read_on, longest_at_broken, broken_at_last}
 use Rattle.pp_lex.proofs.gap.measure_gap.Goals as goal

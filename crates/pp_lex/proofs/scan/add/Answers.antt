@@ -1,4 +1,4 @@
-use Rattle.std.proofs.Common.{◌≡◌, sym, ◌∙◌, ap}
+use Rattle.std.proofs.Common.{◌∙◌, ap}
 use Rattle.pp_lex.proofs.Collected.{add_point, add_other}
 use Rattle.pp_lex.proofs.scan.add.Goals as goal
 
