@@ -1,6 +1,7 @@
 -- Two calls after one another, as one.
-use Rattle.std.proofs.Common.{◌≡◌, ℕ, ◌+◌, ◌-◌, ◌≤◌, List, [], ◌++◌, length, take, drop, Option, None, Some, zero, suc, false, nat_eq, sym, ◌∙◌, ap, append_assoc, arith, length-append}
+use Rattle.std.proofs.Common.{◌≡◌, ℕ, ◌+◌, ◌-◌, ◌≤◌, List, [], ◌++◌, length, take, drop, Option, None, Some, zero, suc, false, nat_eq, sym, ◌∙◌, ap, append_assoc, arith, length-append, drop-drop}
 use Rattle.std.proofs.lemmas.Grind.{common_steps}
+use Rattle.std.proofs.lemmas.List.{take-append-drop}
 use Rattle.pp_io.specs.Ends.{Gave, Took}
 
 -- what two reads gave
@@ -35,3 +36,9 @@ no_rest bytes done rest h k = not_zero (length rest) (omega (arith, ap length h,
 -- how long it is with the first n of the next bytes
 pub length-added : (bytes next : List ℕ) (n : ℕ) → n ≤ length next → length (bytes ++ take n next) ≡ length bytes + n
 length-added bytes next n h = grind (arith, common_steps)
+
+-- where the bytes from a place on are left, and n of them were copied
+pub gave_from : (bytes into : List ℕ) (given n : ℕ) → take n into ≡ take n (drop given bytes)
+    → drop given bytes ≡ take n into ++ drop (given + n) bytes
+gave_from bytes into given n copied =
+    sym (take-append-drop n (drop given bytes)) ∙ grind (arith, common_steps, copied, drop-drop)

@@ -29,14 +29,24 @@ impl SteadySource {
     /// A source of `bytes` that gives at most `piece` of them in a call.
     pub fn new(bytes: Vec<u8>, piece: usize) -> SteadySource
         requires { 1 ≤ piece }
-        ensures left { result.left ≡ bytes.items }
-        ensures piece { result.piece ≡ piece }
+        ensures { result ≡ record { left = bytes.items; piece = piece } }
     {
         SteadySource {
             bytes,
             given: 0,
             piece,
         }
+    }
+
+    /// An equal source.
+    pub fn copy(&self) -> Result<SteadySource, AllocError>
+        ensures { IfOk result (λ source. source ≡ self.now) }
+    {
+        Ok(SteadySource {
+            bytes: Vec::from_slice(*self.bytes.allocator(), &self.bytes)?,
+            given: self.given,
+            piece: self.piece,
+        })
     }
 }
 
@@ -47,12 +57,11 @@ impl Source for SteadySource {
 
     fn read(&mut self, buf: &mut [u8]) -> Result<usize, Failed>
         ensures within { IfOk result (λ n. n ≤ length buf.new) }
-        ensures took { IfOk result (λ n. Gave (Some self.old.left) (Some self.new.left) (take n buf.new)) }
+        ensures given { IfOk result (λ n. Gave (Some self.old.left) (Some self.new.left) (take n buf.new)) }
         ensures end { IfOk result (λ n. 0 < length buf.new → ShowsEnd (Some self.old.left) n) }
-        ensures count { result ≡ Ok (min self.old.piece (min (length self.old.left) (length buf.new))) }
-        ensures given { IfOk result (λ n. take n buf.new ≡ take n self.old.left) }
-        ensures left { IfOk result (λ n. self.new.left ≡ drop n self.old.left) }
-        ensures piece { self.new.piece ≡ self.old.piece }
+
+        ensures number { result ≡ Ok (min self.old.piece (min (length self.old.left) (length buf.new))) }
+        ensures left { IfOk result (λ n. self.new ≡ record self.old { left = drop n self.old.left }) }
     {
         let n = give(&self.bytes[self.given..], self.piece, buf);
         self.given += n;
@@ -79,13 +88,25 @@ impl Model for SteadySink {
 impl SteadySink {
     /// An empty sink that tells its bytes while all of them fit `room`.
     pub fn new(alloc: Global, room: usize) -> Result<SteadySink, AllocError>
-        ensures told { IfOk result (λ sink. sink.told ≡ Some []) }
-        ensures room { IfOk result (λ sink. sink.room ≡ room) }
+        ensures { IfOk result (λ sink. sink ≡ record { told = Some []; room = room }) }
     {
         Ok(SteadySink {
             taken: Vec::with_capacity(alloc, room)?,
             room,
             is_telling: true,
+        })
+    }
+
+    /// An equal sink.
+    pub fn copy(&self) -> Result<SteadySink, AllocError>
+        ensures { IfOk result (λ sink. sink ≡ self.now) }
+    {
+        let mut taken = Vec::with_capacity(*self.taken.allocator(), self.room)?;
+        taken.extend_from_slice(&self.taken)?;
+        Ok(SteadySink {
+            taken,
+            room: self.room,
+            is_telling: self.is_telling,
         })
     }
 
@@ -104,9 +125,9 @@ impl Sink for SteadySink {
 
     fn write(&mut self, bytes: &[u8]) -> Result<usize, Failed>
         ensures took { IfOk result (λ n. Took self.old.told self.new.told (take n bytes.now)) }
+
         ensures whole { result ≡ Ok (length bytes.now) }
-        ensures told { self.new.told ≡ told_after self.old.room self.old.told bytes.now }
-        ensures room { self.new.room ≡ self.old.room }
+        ensures told { self.new ≡ record self.old { told = told_after self.old.room self.old.told bytes.now } }
     {
         if self.is_telling && bytes.len() <= self.room - self.taken.len() {
             self.taken.extend_from_slice(bytes).unwrap();
