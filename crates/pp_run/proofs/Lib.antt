@@ -1,2 +1,4 @@
 pub mod EndingLemmas
 pub mod OneWord
+pub mod NamedLines
+pub mod StoreText
