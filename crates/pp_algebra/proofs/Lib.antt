@@ -16,3 +16,4 @@ pub mod Steps
 pub mod Solved
 pub mod Resume
 pub mod Restrict
+pub mod SameRow

@@ -1,6 +1,6 @@
 //! The laws that make the definitions trustworthy.
 ghost use Rattle.std.specs.Prelude.{ℕ, ◌⊎◌};
-ghost use Rattle.pp_algebra.specs.Laws.{CoversItself, CoversThrough, CoversBothWays, LeastIsCanonical, LeastCovers, LeastIsLeast, SolvedOnce, RowsSolve, PairsSolve};
+ghost use Rattle.pp_algebra.specs.Laws.{CoversItself, CoversThrough, CoversBothWays, SameIsEqual, LeastIsCanonical, LeastCovers, LeastIsLeast, SolvedOnce, RowsSolve, PairsSolve};
 
 /// Covering is an order: each row covers itself, what covers a covering row covers what that covers, and
 /// canonical rows that cover each other are equal.
@@ -31,5 +31,11 @@ pub fn solving_is_unique()
 pub fn solving_ends()
     ensures rows { RowsSolve }
     ensures pairs { PairsSolve }
+{
+}
+
+/// The test for equal rows passes exactly on equal rows.
+pub fn same_row_is_equality()
+    ensures equal { SameIsEqual }
 {
 }
