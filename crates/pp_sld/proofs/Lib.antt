@@ -4,3 +4,4 @@ pub mod Trees
 pub mod Paths
 pub mod Covered
 pub mod Reached
+pub mod Verdicts
