@@ -7,6 +7,7 @@ pub mod LeastOfAll
 pub mod Antisym
 pub mod CanonLemmas
 pub mod Law
+pub mod Sets
 pub mod OneCanon
 pub mod Member
 pub mod SetKinds

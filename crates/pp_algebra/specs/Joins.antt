@@ -24,6 +24,10 @@ joined (two a b) = least_row (joined a) (joined b ∷ [])
 abbrev pub AllOf : ℕ → List Row → Type 0
 AllOf n rs = (q : Row) → IsIn q rs → IsCanonical q × (count q.columns ≡ n)
 
+-- rows of as many columns as this one
+abbrev pub AreWideAs : List Row → Row → Type 0
+AreWideAs rs r = (q : Row) → IsIn q rs → count q.columns ≡ count r.columns
+
 -- the same rows stand in both lists, in whatever order and however often
 abbrev pub SameRows : List Row → List Row → Type 0
 SameRows rs qs = ((q : Row) → IsIn q rs → IsIn q qs) × ((q : Row) → IsIn q qs → IsIn q rs)

@@ -1,11 +1,12 @@
 -- The laws of rows, covering, generalisation and solving, as statements.
-use Rattle.std.specs.Prelude.{◌≡◌, ℕ, ◌⊎◌, ◌↔◌, true, List, [], ◌∷◌, Option}
+use Rattle.std.specs.Prelude.{◌≡◌, ℕ, ◌⊎◌, ◌↔◌, true, List, [], ◌∷◌, ◌++◌, Option}
 use Rattle.std.proofs.Common.{inl, inr}
 use Rattle.pp_algebra.specs.Terms.{Trees, count}
 use Rattle.pp_algebra.specs.Rows.{Domains, Pattern, Row, domain_at, pattern_of, Domain, IsCanonical, AreWide}
 use Rattle.pp_algebra.specs.Covers.{Covers, IsIn}
 use Rattle.pp_algebra.specs.Canon.{same_row}
 use Rattle.pp_algebra.specs.Least.{least_row}
+use Rattle.pp_algebra.specs.Joins.{Joins, rows_of, joined, AllOf, AreWideAs, SameRows}
 use Rattle.pp_algebra.specs.Solve.{Item, IsSolved, Solvable}
 
 abbrev pub RowCovers : Row → Row → Type 0
@@ -32,6 +33,33 @@ LeastCovers = (r : Row) (rs : List Row) (q : Row) → IsIn q (r ∷ rs) → coun
 
 abbrev pub LeastIsLeast : Type 0
 LeastIsLeast = (r : Row) (rs : List Row) (s : Row) → ((q : Row) → IsIn q (r ∷ rs) → RowCovers s q) → RowCovers s (least_row r rs)
+
+-- it depends on which rows there are, and not on their order or number
+abbrev pub LeastOfSame : Type 0
+LeastOfSame = (r q : Row) (rs qs : List Row) → AreWideAs (r ∷ rs) r → SameRows (r ∷ rs) (q ∷ qs) → least_row r rs ≡ least_row q qs
+
+-- two rows may change places
+abbrev pub LeastCommutes : Type 0
+LeastCommutes = (r q : Row) → count q.columns ≡ count r.columns → least_row r (q ∷ []) ≡ least_row q (r ∷ [])
+
+abbrev pub LeastAssociates : Type 0
+LeastAssociates = (n : ℕ) (r q p : Row) → AllOf n (r ∷ q ∷ p ∷ []) → least_row (least_row r (q ∷ [])) (p ∷ []) ≡ least_row r (least_row q (p ∷ []) ∷ [])
+
+-- a row and itself give that row
+abbrev pub LeastIsIdempotent : Type 0
+LeastIsIdempotent = (r : Row) → IsCanonical r → least_row r (r ∷ []) ≡ r
+
+-- of more rows it is more general
+abbrev pub LeastOfMore : Type 0
+LeastOfMore = (r : Row) (rs more : List Row) → AreWideAs (r ∷ rs) r → RowCovers (least_row r (rs ++ more)) (least_row r rs)
+
+-- two lists may be generalised first each by itself
+abbrev pub LeastInParts : Type 0
+LeastInParts = (r q : Row) (rs qs : List Row) → AreWideAs ((r ∷ rs) ++ (q ∷ qs)) r → least_row (least_row r rs) (least_row q qs ∷ []) ≡ least_row r (rs ++ q ∷ qs)
+
+-- joins in any order, any grouping and with repeats give the least generalisation of the whole list
+abbrev pub JoinsGiveLeast : Type 0
+JoinsGiveLeast = (n : ℕ) (r : Row) (rs : List Row) (j : Joins) → AllOf n (r ∷ rs) → SameRows (r ∷ rs) (rows_of j) → joined j ≡ least_row r rs
 
 -- a problem has at most one most general row
 abbrev pub SolvedOnce : Type 0 → Type 0

@@ -1,6 +1,6 @@
 //! The laws that make the definitions trustworthy.
 ghost use Rattle.std.specs.Prelude.{ℕ, ◌⊎◌};
-ghost use Rattle.pp_algebra.specs.Laws.{CoversItself, CoversThrough, CoversBothWays, SameIsEqual, LeastIsCanonical, LeastCovers, LeastIsLeast, SolvedOnce, RowsSolve, PairsSolve};
+ghost use Rattle.pp_algebra.specs.Laws.{CoversItself, CoversThrough, CoversBothWays, SameIsEqual, LeastIsCanonical, LeastCovers, LeastIsLeast, LeastOfSame, LeastCommutes, LeastAssociates, LeastIsIdempotent, LeastOfMore, LeastInParts, JoinsGiveLeast, SolvedOnce, RowsSolve, PairsSolve};
 
 /// Covering is an order: each row covers itself, what covers a covering row covers what that covers, and
 /// canonical rows that cover each other are equal.
@@ -17,6 +17,25 @@ pub fn generalisation_is_least()
     ensures canonical { LeastIsCanonical }
     ensures covers { LeastCovers }
     ensures least { LeastIsLeast }
+{
+}
+
+/// The least generalisation depends on which rows there are alone: not on their order, nor on how often one
+/// stands in the list.
+pub fn generalisation_has_no_order()
+    ensures same_rows { LeastOfSame }
+    ensures commutes { LeastCommutes }
+    ensures associates { LeastAssociates }
+    ensures idempotent { LeastIsIdempotent }
+{
+}
+
+/// Rows may be joined two at a time, in any order, in any grouping and with repeats: the result is the least
+/// generalisation of the whole list. More rows give a more general one.
+pub fn joins_give_the_least_generalisation()
+    ensures joins { JoinsGiveLeast }
+    ensures parts { LeastInParts }
+    ensures more { LeastOfMore }
 {
 }
 
