@@ -17,4 +17,5 @@ pub mod Steps
 pub mod Solved
 pub mod Resume
 pub mod Restrict
+pub mod Solving
 pub mod SameRow

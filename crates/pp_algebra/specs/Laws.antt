@@ -1,13 +1,14 @@
 -- The laws of rows, covering, generalisation and solving, as statements.
-use Rattle.std.specs.Prelude.{◌≡◌, ℕ, ◌⊎◌, ◌↔◌, true, List, [], ◌∷◌, ◌++◌, Option}
+use Rattle.std.specs.Prelude.{◌≡◌, ℕ, ◌⊎◌, ◌↔◌, true, List, [], ◌∷◌, ◌++◌, map, Option, nat_eq}
 use Rattle.std.proofs.Common.{inl, inr}
-use Rattle.pp_algebra.specs.Terms.{Trees, count}
-use Rattle.pp_algebra.specs.Rows.{Domains, Pattern, Row, domain_at, pattern_of, Domain, IsCanonical, AreWide}
+use Rattle.pp_algebra.specs.Terms.{Trees, count, put_all, variables_all}
+use Rattle.pp_algebra.specs.Rows.{Domains, Pattern, Row, domain_at, pattern_of, Domain, IsCanonical, IsRow, AreWide}
 use Rattle.pp_algebra.specs.Covers.{Covers, IsIn}
-use Rattle.pp_algebra.specs.Canon.{same_row}
+use Rattle.pp_algebra.specs.Canon.{canon, same_row}
 use Rattle.pp_algebra.specs.Least.{least_row}
 use Rattle.pp_algebra.specs.Joins.{Joins, rows_of, joined, AllOf, AreWideAs, SameRows}
-use Rattle.pp_algebra.specs.Solve.{Item, IsSolved, Solvable}
+use Rattle.pp_algebra.specs.Solve.{Item, put_item, Holds, Meets, IsSolved, HasNone, Solvable}
+use Rattle.pp_algebra.specs.Stages.{pattern, with_fresh, kept, moved, ColumnsSpeakOf, ItemsSpeakOf}
 
 abbrev pub RowCovers : Row → Row → Type 0
 RowCovers r q = Covers (pattern_of r) (pattern_of q)
@@ -64,6 +65,36 @@ JoinsGiveLeast = (n : ℕ) (r : Row) (rs : List Row) (j : Joins) → AllOf n (r 
 -- a problem has at most one most general row
 abbrev pub SolvedOnce : Type 0 → Type 0
 SolvedOnce V = (p : Pattern V) (items : List (Item V)) (r q : Row) → IsSolved p items r → IsSolved p items q → r ≡ q
+
+-- a row meets the items exactly where the most general row covers it
+abbrev pub SolvedCovers : Type 0 → Type 0
+SolvedCovers V = (p : Pattern V) (items : List (Item V)) (r : Row) → IsSolved p items r → (q : Row) → IsRow q → Meets p items q ↔ RowCovers r q
+
+-- the same items stand in both lists, in whatever order and however often
+abbrev pub SameItems : {V : Type 0} → List (Item V) → List (Item V) → Type 0
+SameItems {V} items others = ((i : Item V) → IsIn i items → IsIn i others) × ((i : Item V) → IsIn i others → IsIn i items)
+
+abbrev pub SolvedInAnyOrder : Type 0 → Type 0
+SolvedInAnyOrder V = (p : Pattern V) (items others : List (Item V)) → SameItems items others → ((r : Row) → IsSolved p items r ↔ IsSolved p others r) × (HasNone p items ↔ HasNone p others)
+
+-- an item that the most general row meets already changes nothing
+abbrev pub SolvedWithMore : Type 0 → Type 0
+SolvedWithMore V = (p : Pattern V) (items : List (Item V)) (i : Item V) (r : Row) (h : IsSolved p items r) → Holds (domain_at r.domains) h.meets.by i → IsSolved p (i ∷ items) r
+
+-- solving and taking some of the columns is solving for these columns
+abbrev pub SolvedForSome : Type 0 → Type 0
+SolvedForSome V = (ts us : Trees V) (ds : Domains V) (items : List (Item V)) (r : Row) (h : IsSolved (pattern ts ds) items r) → ((v : V) → IsIn v (variables_all us) → IsIn v (variables_all ts))
+    → IsSolved (pattern us ds) items (canon nat_eq (pattern (put_all h.meets.by us) (domain_at r.domains)))
+
+-- whether a row meets the items does not lie in the columns
+abbrev pub NoneForAny : Type 0 → Type 0
+NoneForAny V = (ts us : Trees V) (ds : Domains V) (items : List (Item V)) → HasNone (pattern ts ds) items → HasNone (pattern us ds) items
+
+-- the row of the first items, and then of the later ones from that row on, is the row of all of them at once; W are fresh variables of the second stage
+abbrev pub SolvedInStages : Type 0 → Type 0 → Type 0
+SolvedInStages U W = (ts : Trees U) (ds : Domains U) (items : List (Item U)) (r : Row) (h : IsSolved (pattern ts ds) items r) (us : Trees (U ⊎ W)) (later : List (Item (U ⊎ W))) → ColumnsSpeakOf ts us → ItemsSpeakOf ts later
+    → ((q : Row) → IsSolved (pattern us (with_fresh W ds)) (map (put_item (kept W)) items ++ later) q ↔ IsSolved (pattern (put_all (moved W h.meets.by) us) (with_fresh W (domain_at r.domains))) (map (put_item (moved W h.meets.by)) later) q)
+    × (HasNone (pattern us (with_fresh W ds)) (map (put_item (kept W)) items ++ later) ↔ HasNone (pattern (put_all (moved W h.meets.by) us) (with_fresh W (domain_at r.domains))) (map (put_item (moved W h.meets.by)) later))
 
 -- columns and items over the variables of a row
 abbrev pub RowsSolve : Type 0

@@ -5,4 +5,5 @@ pub mod Canon
 pub mod Least
 pub mod Joins
 pub mod Solve
+pub mod Stages
 pub mod Laws
