@@ -5,3 +5,4 @@ pub mod Paths
 pub mod Covered
 pub mod Reached
 pub mod Verdicts
+pub mod Settled

@@ -1,6 +1,6 @@
 //! The laws of search.
 ghost use Rattle.pp_sld.specs.Ways.{Way};
-ghost use Rattle.pp_sld.specs.Laws.{Goes, LeadsOnce, HasAtMostOneSearch, HasOneSearch};
+ghost use Rattle.pp_sld.specs.Laws.{Goes, LeadsOnce, HasAtMostOneSearch, HasOneSearch, FindingsJoin, OutcomeIsVerdict, SettledStays, LastIsPath, SplitKeeps, NextKeeps, DownKeeps};
 
 /// A way leads to at most one configuration, and a configuration has at most one search tree.
 pub fn search_is_unique()
@@ -13,5 +13,24 @@ pub fn search_is_unique()
 pub fn search_is_total()
     ensures ways { (w : Way) → Goes w }
     ensures trees { HasOneSearch }
+{
+}
+
+/// What is known of a search may be gathered in parts, two findings joined at a time; the outcome of the whole is
+/// the verdict. Once a finding is settled, the rest of the search may be left out.
+pub fn findings_give_the_verdict()
+    ensures join { FindingsJoin }
+    ensures outcome { OutcomeIsVerdict }
+    ensures settled { SettledStays }
+{
+}
+
+/// A work is a path into a search tree with the siblings that are left at each level. Splitting it, going on to
+/// the next sibling and going down lose no leaf and make no leaf twice.
+pub fn paths_keep_every_leaf()
+    ensures last { LastIsPath }
+    ensures split { SplitKeeps }
+    ensures next { NextKeeps }
+    ensures down { DownKeeps }
 {
 }

@@ -5,4 +5,4 @@
 
 mod laws;
 
-pub use laws::{search_is_total, search_is_unique};
+pub use laws::{findings_give_the_verdict, paths_keep_every_leaf, search_is_total, search_is_unique};
