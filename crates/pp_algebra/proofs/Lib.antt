@@ -19,3 +19,4 @@ pub mod Resume
 pub mod Restrict
 pub mod Solving
 pub mod SameRow
+pub mod Worked

@@ -7,3 +7,4 @@ pub mod Joins
 pub mod Solve
 pub mod Stages
 pub mod Laws
+pub mod Examples
