@@ -15,10 +15,10 @@ use Rattle.pp_algebra.proofs.Eliminated.{no_circle}
 use Rattle.pp_algebra.proofs.Resume.{wide_at}
 use Rattle.pp_algebra.proofs.SetKinds.{in_left, in_right, goes_both, goes_to_one}
 
-abbrev only : ℤ → Domain
+abbrev pub only : ℤ → Domain
 only n = set.from_list (n ∷ [])
 
-abbrev pair : ℤ → ℤ → Domain
+abbrev pub pair : ℤ → ℤ → Domain
 pair n m = set.from_list (n ∷ m ∷ [])
 
 both_of : (a b : Bool) → ((a || false) || ((b || false) || false)) ≡ (a || (b || false))
@@ -51,7 +51,7 @@ in_only n k = set.contains-from_list int_cmp_total (n ∷ []) k
 in_pair : (n m k : ℤ) → set.contains (pair n m) k ≡ list_any (eq_by_cmp int_cmp k) (n ∷ m ∷ [])
 in_pair n m k = set.contains-from_list int_cmp_total (n ∷ m ∷ []) k
 
-two_make : (n m : ℤ) → set.union (only n) (set.union (only m) set.empty) ≡ pair n m
+pub two_make : (n m : ℤ) → set.union (only n) (set.union (only m) set.empty) ≡ pair n m
 two_make n m = same _ _ (λ k. in_union (n ∷ []) (m ∷ []) k ∙ rw (in_only n k, in_only m k) (both_of _ _) ∙ sym (in_pair n m k))
 
 first_added : (n m : ℤ) → set.union (pair n m) (set.union (only n) set.empty) ≡ pair n m

@@ -6,3 +6,4 @@ pub mod Covered
 pub mod Reached
 pub mod Verdicts
 pub mod Settled
+pub mod Worked
