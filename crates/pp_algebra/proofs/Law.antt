@@ -1,5 +1,5 @@
 -- The least generalisation of rows, and the law of joins.
-use Rattle.std.proofs.Common.{◌≡◌, ℕ, suc, ◌<◌, List, [], ◌∷◌, ◌++◌, map, length, get_or, refl, ap, sym, ◌∙◌, subst, inl, inr, arith}
+use Rattle.std.proofs.Common.{◌≡◌, ℕ, suc, ◌<◌, List, [], ◌∷◌, map, length, get_or, refl, ap, sym, ◌∙◌, subst, inl, inr, arith}
 use Rattle.std.proofs.Math.ListN.{length-map}
 use Rattle.pp_algebra.specs.Terms.{count}
 use Rattle.pp_algebra.specs.Covers.{IsIn, Covers}
@@ -78,4 +78,3 @@ joins_law n r rs j h to from =
 -- a problem has at most one most general row
 pub solved_once : {V : Type 0} (p : Pattern V) (items : List (Item V)) (r q : Row) → IsSolved p items r → IsSolved p items q → r ≡ q
 solved_once p items r q h k = covers_antisymmetric r q h.row.canonical k.row.canonical (h.most q k.row k.meets) (k.most r h.row h.meets)
-

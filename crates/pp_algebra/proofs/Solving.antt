@@ -1,17 +1,16 @@
 -- The most general row and the rows that meet the items; items in any order, with repeats and with more that hold already.
-use Rattle.std.proofs.Common.{◌≡◌, ℕ, zero, suc, ◌<◌, ◌≤◌, List, [], ◌∷◌, length, Some, refl, ap, sym, ◌∙◌, subst, ◌⊎◌, inl, inr, arith}
+use Rattle.std.proofs.Common.{ℕ, zero, suc, ◌<◌, ◌≤◌, List, [], ◌∷◌, length, Some, refl, ap, sym, ◌∙◌, subst, ◌⊎◌, inl, inr, arith}
 use Rattle.std.specs.Prelude.{◌↔◌}
-use Rattle.pp_algebra.specs.Terms.{Tree, put, put_all, variables_all, Trees}
-use Rattle.pp_algebra.specs.Rows.{Domains, Pattern, Row, domain_at, pattern_of, IsRow}
-use Rattle.pp_algebra.specs.Covers.{MayGo, IsIn, Covers}
-use Rattle.pp_algebra.specs.Solve.{Item, equation, membership, Holds, AllHold, Meets, IsSolved, HasNone, put_item}
-use Rattle.pp_algebra.specs.Stages.{pattern, with_fresh, kept, moved, ColumnsSpeakOf, ItemsSpeakOf}
+use Rattle.pp_algebra.specs.Terms.{Tree, put, put_all, variables_all}
+use Rattle.pp_algebra.specs.Rows.{Domains, Pattern, Row, domain_at, IsRow}
+use Rattle.pp_algebra.specs.Covers.{MayGo, IsIn}
+use Rattle.pp_algebra.specs.Solve.{Item, equation, membership, Holds, AllHold, Meets, IsSolved, HasNone}
 use Rattle.pp_algebra.specs.Laws.{RowCovers, SameItems, SolvedForSome, NoneForAny, SolvedInStages}
 use Rattle.pp_algebra.proofs.Put.{put-put, put_all-put_all}
 use Rattle.pp_algebra.proofs.Member.{members}
 use Rattle.pp_algebra.proofs.Antisym.{occurs}
 use Rattle.pp_algebra.proofs.Order.{goes_further}
-use Rattle.pp_algebra.proofs.Resume.{beyond, meets_all, meets_last, resumed, at_once, none_resumed}
+use Rattle.pp_algebra.proofs.Resume.{beyond, meets_last, resumed, at_once, none_resumed}
 use Rattle.pp_algebra.proofs.Restrict.{restricted, none_for}
 
 pub below_or : (v n : ℕ) → (v < n) ⊎ (n ≤ v)

@@ -1,5 +1,5 @@
 -- The worked examples hold.
-use Rattle.std.proofs.Common.{◌≡◌, ℕ, ℤ, zero, suc, pos, arith, Option, true, false, Bool, List, [], ◌∷◌, Some, None, refl, ap, sym, ◌∙◌, subst, inl, inr}
+use Rattle.std.proofs.Common.{◌≡◌, ℕ, ℤ, zero, suc, pos, arith, Option, true, false, Bool, List, [], ◌∷◌, Some, None, refl, ap, sym, ◌∙◌, subst, inl}
 use Rattle.std.specs.Prelude.{◌||◌}
 use Rattle.std.specs.Ordering.{int_eq}
 use Rattle.std.specs.Ordering.{int_cmp, eq_by_cmp}

@@ -1,11 +1,11 @@
 -- Worked examples of rows, least generalisation, covering and solving.
-use Rattle.std.specs.Prelude.{◌≡◌, ℕ, ℤ, pos, nat_eq, List, [], ◌∷◌, Option, Some, None}
+use Rattle.std.specs.Prelude.{◌≡◌, ℕ, pos, nat_eq, List, [], ◌∷◌, Option, Some, None}
 use Rattle.std.specs.FinSet as set
 use Rattle.pp_algebra.specs.Terms.{Tree, int, node, variable, Trees, none, more}
 use Rattle.pp_algebra.specs.Rows.{Domain, Domains, Row}
 use Rattle.pp_algebra.specs.Canon.{canon}
 use Rattle.pp_algebra.specs.Least.{least_row}
-use Rattle.pp_algebra.specs.Solve.{Item, equation, membership, IsSolved, HasNone}
+use Rattle.pp_algebra.specs.Solve.{equation, membership, IsSolved, HasNone}
 use Rattle.pp_algebra.specs.Stages.{pattern}
 use Rattle.pp_algebra.specs.Laws.{RowCovers}
 

@@ -1,5 +1,5 @@
 -- Solving in stages: the items of a second stage, over the row that the first stage gave and over fresh variables.
-use Rattle.std.specs.Prelude.{ℕ, ◌⊎◌, List, [], ◌∷◌, Option, None}
+use Rattle.std.specs.Prelude.{ℕ, ◌⊎◌, List, [], ◌∷◌, None}
 use Rattle.std.proofs.Common.{inl, inr}
 use Rattle.pp_algebra.specs.Terms.{Tree, variable, Trees, put, variables, variables_all}
 use Rattle.pp_algebra.specs.Rows.{Domains, Pattern}

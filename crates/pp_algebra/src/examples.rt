@@ -16,5 +16,4 @@ pub fn worked_examples()
     ensures equation_solves { EquationSolves }
     ensures circle_has_none { CircleHasNone }
     ensures domains_meet { DomainsMeet }
-{
-}
+{}

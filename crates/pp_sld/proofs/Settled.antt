@@ -1,5 +1,5 @@
 -- A settled finding stays settled, with its outcome.
-use Rattle.std.proofs.Common.{◌≡◌, Bool, true, false, cond, ◌||◌, List, [], ◌∷◌, ◌++◌, Some, None, Option, refl, ap, sym, ◌∙◌, subst, inl, inr}
+use Rattle.std.proofs.Common.{◌≡◌, Bool, true, cond, ◌||◌, List, [], ◌∷◌, ◌++◌, Some, None, Option, refl, ap, sym, ◌∙◌, subst, inl, inr}
 use Rattle.pp_algebra.specs.Rows.{Row, IsCanonical, pattern_of}
 use Rattle.pp_algebra.specs.Covers.{IsIn}
 use Rattle.pp_algebra.specs.Canon.{same_row}
@@ -9,7 +9,7 @@ use Rattle.pp_algebra.proofs.Order.{covers_itself}
 use Rattle.pp_algebra.proofs.Antisym.{covers_antisymmetric}
 use Rattle.pp_algebra.proofs.Law.{least_row-IsCanonical, least_row-covers, least_row-least}
 use Rattle.pp_algebra.proofs.SameRow.{same_row-sound, same_row-itself}
-use Rattle.pp_sld.specs.Verdicts.{Mode, most, unique, consistent, Verdict, same, unfinished, narrow, some_row}
+use Rattle.pp_sld.specs.Verdicts.{Mode, most, unique, consistent, same, unfinished, narrow, some_row}
 use Rattle.pp_sld.specs.Findings.{Sole, no_row, two_rows, one_row, finds_most, finds_unique, join_sole, sole_of, finding, join_option, join_finding, outcome, outcome_most, settled}
 
 -- a canonical row joined with what it covers is itself
@@ -40,11 +40,10 @@ stays_most : (call a : Row) (A C B D : List Row) → least_row a A ≡ call → 
 stays_most call a A C B D e h =
     let c : IsCanonical call = subst IsCanonical e (least_row-IsCanonical a A) in
     let g : join_option (Some (least_row a A)) (least_list B) ≡ Some call = ap (λ x. join_option (Some x) (least_list B)) e ∙ join_call call B c h in
-    let o = join_some (least_row a (A ++ C)) (least_list (B ++ D)) in
-    (
+    let o = join_some (least_row a (A ++ C)) (least_list (B ++ D)) in (
       ap (λ x. settled call (finds_most x (join_option (Some (least_row a (A ++ C))) (least_list (B ++ D))))) g ∙ same_row-itself call,
       ap (λ x. outcome_most call x (join_option (Some (least_row a (A ++ C))) (least_list (B ++ D)))) g ∙ ap (outcome_most call (Some call)) o.1 ∙ is_same call o.0
-      ∙ sym (ap (λ x. outcome_most call (Some x) (Some (least_row a (A ++ C)))) e ∙ is_same call (least_row a (A ++ C))),
+          ∙ sym (ap (λ x. outcome_most call (Some x) (Some (least_row a (A ++ C)))) e ∙ is_same call (least_row a (A ++ C))),
     )
 
 stays_unique : (call : Row) (s t : Sole) (b c : Bool) → settled call (finds_unique s b) ≡ true

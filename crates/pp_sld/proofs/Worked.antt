@@ -1,10 +1,10 @@
 -- The worked examples hold.
-use Rattle.std.proofs.Common.{[], ◌∷◌, pos, Some, None, refl, ap, ◌∙◌}
+use Rattle.std.proofs.Common.{[], ◌∷◌, pos, Some, refl, ap, ◌∙◌}
 use Rattle.std.specs.Prelude.{cond}
 use Rattle.std.specs.FinSet as set
 use Rattle.pp_algebra.specs.Terms.{variable}
 use Rattle.pp_algebra.specs.Rows.{Domain, Row}
-use Rattle.pp_algebra.specs.Examples.{one_column, row, one_or_two}
+use Rattle.pp_algebra.specs.Examples.{one_column, row}
 use Rattle.pp_algebra.proofs.SameRow.{same_row-itself}
 use Rattle.pp_algebra.proofs.Worked.{two_make}
 use Rattle.pp_sld.specs.Verdicts.{most, unique, consistent, unfinished, narrow}

@@ -11,8 +11,7 @@ pub fn worked_decisions()
     ensures atom_fails { AtomFails }
     ensures indomain_splits { IndomainSplits }
     ensures comparison_waits { ComparisonWaits }
-{
-}
+{}
 
 /// The verdict in each mode on some answers and loose ends.
 pub fn worked_verdicts()
@@ -22,5 +21,4 @@ pub fn worked_verdicts()
     ensures unique_narrows { UniqueNarrows }
     ensures consistent_says_nothing { ConsistentSaysNothing }
     ensures no_leaf_fails { NoLeafFails }
-{
-}
+{}

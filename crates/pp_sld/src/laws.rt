@@ -6,15 +6,13 @@ ghost use Rattle.pp_sld.specs.Laws.{Goes, LeadsOnce, HasAtMostOneSearch, HasOneS
 pub fn search_is_unique()
     ensures ways { LeadsOnce }
     ensures trees { HasAtMostOneSearch }
-{
-}
+{}
 
 /// Each way leads on or fails, and each configuration has its search tree: every search ends.
 pub fn search_is_total()
     ensures ways { (w : Way) → Goes w }
     ensures trees { HasOneSearch }
-{
-}
+{}
 
 /// What is known of a search may be gathered in parts, two findings joined at a time; the outcome of the whole is
 /// the verdict. Once a finding is settled, the rest of the search may be left out.
@@ -22,8 +20,7 @@ pub fn findings_give_the_verdict()
     ensures join { FindingsJoin }
     ensures outcome { OutcomeIsVerdict }
     ensures settled { SettledStays }
-{
-}
+{}
 
 /// A work is a path into a search tree with the siblings that are left at each level. Splitting it, going on to
 /// the next sibling and going down lose no leaf and make no leaf twice.
@@ -32,5 +29,4 @@ pub fn paths_keep_every_leaf()
     ensures split { SplitKeeps }
     ensures next { NextKeeps }
     ensures down { DownKeeps }
-{
-}
+{}

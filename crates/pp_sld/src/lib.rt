@@ -7,4 +7,6 @@ mod examples;
 mod laws;
 
 pub use examples::{worked_decisions, worked_verdicts};
-pub use laws::{findings_give_the_verdict, paths_keep_every_leaf, search_is_total, search_is_unique};
+pub use laws::{
+    findings_give_the_verdict, paths_keep_every_leaf, search_is_total, search_is_unique,
+};
