@@ -7,3 +7,6 @@ pub mod Reached
 pub mod Verdicts
 pub mod Settled
 pub mod Worked
+pub mod CallCovers
+pub mod Deeper
+pub mod DeeperVerdict

@@ -1,13 +1,15 @@
 -- The laws of search, as statements.
-use Rattle.std.specs.Prelude.{◌≡◌, ℕ, suc, ◌<◌, ◌⊎◌, true, List, [], ◌∷◌, ◌++◌}
-use Rattle.pp_algebra.specs.Rows.{Row}
+use Rattle.std.specs.Prelude.{◌≡◌, ℕ, suc, ◌<◌, ◌≤◌, length, ◌⊎◌, true, List, [], ◌∷◌, ◌++◌}
+use Rattle.pp_algebra.specs.Rows.{Row, IsCanonical}
 use Rattle.pp_algebra.specs.Covers.{IsIn}
 use Rattle.pp_algebra.specs.Joins.{AllOf}
 use Rattle.pp_algebra.specs.Laws.{RowCovers}
-use Rattle.pp_sld.specs.Goals.{Program, Config}
+use Rattle.pp_sld.specs.Goals.{Shape, Program, Config}
 use Rattle.pp_sld.specs.Ways.{Way, Leads, IsDead}
 use Rattle.pp_sld.specs.Trees.{Search, IsSearch}
-use Rattle.pp_sld.specs.Verdicts.{Mode, verdict}
+use Rattle.pp_sld.specs.Trace.{trace}
+use Rattle.pp_sld.specs.Leaves.{call, root, answer_rows, loose_rows}
+use Rattle.pp_sld.specs.Verdicts.{Mode, Verdict, unfinished, verdict}
 use Rattle.pp_sld.specs.Findings.{finding, join_finding, outcome, settled}
 use Rattle.pp_sld.specs.Paths.{Level, level, worth, at_path, AllLast, PathComesTo}
 
@@ -40,6 +42,23 @@ abbrev pub SettledStays : Type 0
 SettledStays = (call : Row) (m : Mode) (A C B D : List Row) → ((q : Row) → IsIn q B → RowCovers call q) → settled call (finding m A C) ≡ true
     → (settled call (join_finding (finding m A C) (finding m B D)) ≡ true)
     × (outcome call (join_finding (finding m A C) (finding m B D)) ≡ outcome call (finding m A C))
+
+-- each answer and each loose end of a goal is a canonical row that the call covers
+abbrev pub CallCoversLeaves : Type 0
+CallCoversLeaves = (clauses : Program) (shape : Shape) (face : Row) (depth : ℕ) (t : Search) → IsSearch clauses (root shape face depth) t → (r : Row) → IsIn r (answer_rows (trace t) ++ loose_rows (trace t)) → RowCovers (call face) r × IsCanonical r
+
+-- and has a column for each variable of the face
+abbrev pub LeavesAreWide : Type 0
+LeavesAreWide = (clauses : Program) (shape : Shape) (face : Row) (depth : ℕ) (t : Search) → IsSearch clauses (root shape face depth) t → AllOf (length face.domains) (answer_rows (trace t) ++ loose_rows (trace t))
+
+-- the verdict of a goal's search tree
+abbrev pub verdict_of : Mode → Row → Search → Verdict
+verdict_of m face t = verdict m (call face) (answer_rows (trace t)) (loose_rows (trace t))
+
+-- a verdict other than unfinished is the verdict at each larger depth
+abbrev pub Deepens : Type 0
+Deepens = (clauses : Program) (m : Mode) (shape : Shape) (face : Row) (d e : ℕ) → d ≤ e → (t u : Search) → IsSearch clauses (root shape face d) t → IsSearch clauses (root shape face e) u
+    → (verdict_of m face t ≡ unfinished → ⊥) → verdict_of m face u ≡ verdict_of m face t
 
 -- a work whose levels have no sibling left stands for its path
 abbrev pub LastIsPath : Type 0

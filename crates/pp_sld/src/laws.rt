@@ -1,6 +1,6 @@
 //! The laws of search.
 ghost use Rattle.pp_sld.specs.Ways.{Way};
-ghost use Rattle.pp_sld.specs.Laws.{Goes, LeadsOnce, HasAtMostOneSearch, HasOneSearch, FindingsJoin, OutcomeIsVerdict, SettledStays, LastIsPath, SplitKeeps, NextKeeps, DownKeeps};
+ghost use Rattle.pp_sld.specs.Laws.{Goes, LeadsOnce, HasAtMostOneSearch, HasOneSearch, FindingsJoin, OutcomeIsVerdict, SettledStays, CallCoversLeaves, LeavesAreWide, Deepens, LastIsPath, SplitKeeps, NextKeeps, DownKeeps};
 
 /// A way leads to at most one configuration, and a configuration has at most one search tree.
 pub fn search_is_unique()
@@ -30,3 +30,17 @@ pub fn paths_keep_every_leaf()
     ensures next { NextKeeps }
     ensures down { DownKeeps }
 {}
+
+/// What a search finds lies under its call: each answer and each loose end is a canonical row, with a column for
+/// each variable of the face, and the call covers it.
+pub fn call_covers_what_is_found()
+    ensures covers { CallCoversLeaves }
+    ensures width { LeavesAreWide }
+{
+}
+
+/// A search that is given more depth may finish what was unfinished, and changes no other verdict.
+pub fn deepening_keeps_verdicts()
+    ensures verdict { Deepens }
+{
+}
