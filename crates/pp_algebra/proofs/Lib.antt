@@ -15,6 +15,7 @@ pub mod Solution
 pub mod Eliminated
 pub mod Steps
 pub mod Solved
+pub mod AlwaysSolved
 pub mod Resume
 pub mod Restrict
 pub mod Solving

@@ -107,3 +107,10 @@ two_kinds ds es (inr v) = domain_at es v
 -- columns and items over the variables of two rows
 abbrev pub PairsSolve : Type 0
 PairsSolve = (ds es : List (Option Domain)) (ts : Trees (ℕ ⊎ ℕ)) (items : List (Item (ℕ ⊎ ℕ))) → AreWide ds → AreWide es → Solvable (record { columns = ts; domains = two_kinds ds es }) items
+
+-- the domains may also be empty or have one integer
+abbrev pub RowsAlwaysSolve : Type 0
+RowsAlwaysSolve = (ds : List (Option Domain)) (ts : Trees ℕ) (items : List (Item ℕ)) → Solvable (record { columns = ts; domains = domain_at ds }) items
+
+abbrev pub PairsAlwaysSolve : Type 0
+PairsAlwaysSolve = (ds es : List (Option Domain)) (ts : Trees (ℕ ⊎ ℕ)) (items : List (Item (ℕ ⊎ ℕ))) → Solvable (record { columns = ts; domains = two_kinds ds es }) items

@@ -1,6 +1,6 @@
 //! The laws that make the definitions trustworthy.
 ghost use Rattle.std.specs.Prelude.{ℕ, ◌⊎◌};
-ghost use Rattle.pp_algebra.specs.Laws.{CoversItself, CoversThrough, CoversBothWays, SameIsEqual, LeastIsCanonical, LeastCovers, LeastIsLeast, LeastOfSame, LeastCommutes, LeastAssociates, LeastIsIdempotent, LeastOfMore, LeastInParts, JoinsGiveLeast, SolvedOnce, SolvedCovers, SolvedInAnyOrder, SolvedWithMore, SolvedInStages, SolvedForSome, NoneForAny, RowsSolve, PairsSolve};
+ghost use Rattle.pp_algebra.specs.Laws.{CoversItself, CoversThrough, CoversBothWays, SameIsEqual, LeastIsCanonical, LeastCovers, LeastIsLeast, LeastOfSame, LeastCommutes, LeastAssociates, LeastIsIdempotent, LeastOfMore, LeastInParts, JoinsGiveLeast, SolvedOnce, SolvedCovers, SolvedInAnyOrder, SolvedWithMore, SolvedInStages, SolvedForSome, NoneForAny, RowsSolve, PairsSolve, RowsAlwaysSolve, PairsAlwaysSolve};
 
 /// Covering is an order: each row covers itself, what covers a covering row covers what that covers, and
 /// canonical rows that cover each other are equal.
@@ -41,10 +41,12 @@ pub fn solving_is_unique()
     ensures two_kinds { SolvedOnce (ℕ ⊎ ℕ) }
 {}
 
-/// Equations and memberships have a most general row, or nothing meets them.
+/// Equations and memberships have a most general row, or nothing meets them, whatever the domains are.
 pub fn solving_ends()
     ensures rows { RowsSolve }
     ensures pairs { PairsSolve }
+    ensures all_rows { RowsAlwaysSolve }
+    ensures all_pairs { PairsAlwaysSolve }
 {}
 
 /// The test for equal rows passes exactly on equal rows.
