@@ -1,19 +1,19 @@
 -- A configuration's columns cover the leaves of its tree.
-use Rattle.std.proofs.Common.{◌≡◌, ℕ, zero, suc, ◌+◌, ◌≤◌, List, [], ◌∷◌, ◌++◌, map, length, refl, ap, sym, ◌∙◌, subst, ◌⊎◌, inl, inr, arith}
+use Rattle.std.proofs.Common.{◌≡◌, ℕ, zero, suc, ◌+◌, List, [], ◌∷◌, ◌++◌, length, refl, ap, sym, ◌∙◌, subst, inl, inr, arith}
 use Rattle.std.specs.Prelude.{nat_eq}
 use Rattle.pp_algebra.specs.Terms.{count, variables_all}
 use Rattle.pp_algebra.specs.Rows.{Row, IsCanonical, IsNumbered, pattern_of}
 use Rattle.pp_algebra.specs.Covers.{IsIn, Covers}
 use Rattle.pp_algebra.specs.Joins.{AllOf}
 use Rattle.pp_algebra.specs.Laws.{RowCovers}
-use Rattle.pp_algebra.proofs.Order.{covers_itself, covers_through, IsIn-left, IsIn-right}
+use Rattle.pp_algebra.proofs.Order.{covers_through}
 use Rattle.pp_algebra.proofs.Antisym.{IsIn-either}
 use Rattle.pp_algebra.proofs.CanonLemmas.{nat_eq-IsSame, canon-IsCanonical, canon-covers, covers-canon}
 use Rattle.pp_algebra.proofs.Law.{count-covers}
 use Rattle.pp_sld.specs.Goals.{Shape, Program, Config}
-use Rattle.pp_sld.specs.Ways.{Way, one, choices, next}
+use Rattle.pp_sld.specs.Ways.{Way}
 use Rattle.pp_sld.specs.Trees.{Search, answer, loose, refused, passed, choice, Searches, no_more, child, failed, IsSearch, AreSearches}
-use Rattle.pp_sld.specs.Trace.{Mark, tried, answered, left_loose, trace, trace_all, answers, loose_ends}
+use Rattle.pp_sld.specs.Trace.{Mark, tried, answered, left_loose, trace, trace_all}
 use Rattle.pp_sld.specs.Leaves.{variables_from, call, root, leaf_row, answer_rows, loose_rows}
 use Rattle.pp_sld.proofs.Covered.{columns_of, leads-covers, AllOf as AllOfConfig, NextOf, next-of}
 
@@ -77,8 +77,7 @@ module _ (clauses : Program) where
         let p : AllOfConfig c (h.0 ∷ h.1) = subst (AllOfConfig c) h.2 o in
         let a = leads-covers c h.0 h.3 p.0 h.4 in
         let k = all_under t h.3 h.5 in
-        let l = each_under ts c h.1 p.1 h.6 in
-        (
+        let l = each_under ts c h.1 p.1 h.6 in (
           subst (AllUnder c) (sym (answer_rows-append (trace t) (trace_all ts))) (under-both c (answer_rows (trace t)) (answer_rows (trace_all ts)) (under-through c h.3 (answer_rows (trace t)) a k.0) l.0),
           subst (AllUnder c) (sym (loose_rows-append (trace t) (trace_all ts))) (under-both c (loose_rows (trace t)) (loose_rows (trace_all ts)) (under-through c h.3 (loose_rows (trace t)) a k.1) l.1),
         )

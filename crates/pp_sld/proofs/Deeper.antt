@@ -1,5 +1,5 @@
 -- The tree of a configuration with more depth: the answers stay, and what is new lies under a loose end.
-use Rattle.std.proofs.Common.{◌≡◌, ℕ, ℤ, zero, suc, ◌≤◌, List, [], ◌∷◌, ◌++◌, map, refl, ap, sym, ◌∙◌, subst, ◌⊎◌, inl, inr, arith}
+use Rattle.std.proofs.Common.{◌≡◌, ℕ, ℤ, zero, suc, ◌≤◌, List, [], ◌∷◌, ◌++◌, map, refl, sym, subst, ◌⊎◌, inl, inr, arith}
 use Rattle.pp_algebra.specs.Rows.{Row, pattern_of}
 use Rattle.pp_algebra.specs.Covers.{IsIn}
 use Rattle.pp_algebra.specs.Laws.{RowCovers}

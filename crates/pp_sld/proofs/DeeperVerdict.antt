@@ -1,21 +1,19 @@
 -- A verdict other than unfinished stays when answers and loose ends grow.
-use Rattle.std.proofs.Common.{◌≡◌, ℕ, ◌≤◌, Bool, true, false, cond, List, [], ◌∷◌, ◌++◌, refl, ap, sym, ◌∙◌, subst, ◌⊎◌, inl, inr}
+use Rattle.std.proofs.Common.{◌≡◌, Bool, true, false, cond, List, [], ◌∷◌, ◌++◌, refl, ap, sym, ◌∙◌, subst, inl, inr}
 use Rattle.pp_algebra.specs.Terms.{count}
 use Rattle.pp_algebra.specs.Rows.{Row, IsCanonical, pattern_of}
 use Rattle.pp_algebra.specs.Covers.{IsIn}
 use Rattle.pp_algebra.specs.Canon.{same_row}
 use Rattle.pp_algebra.specs.Least.{least_row}
 use Rattle.pp_algebra.specs.Laws.{RowCovers}
-use Rattle.pp_algebra.proofs.Order.{covers_itself, covers_through, IsIn-left, IsIn-right}
+use Rattle.pp_algebra.proofs.Order.{covers_through, IsIn-left, IsIn-right}
 use Rattle.pp_algebra.proofs.Antisym.{covers_antisymmetric, IsIn-either}
 use Rattle.pp_algebra.proofs.Law.{count-covers, least_row-IsCanonical, least_row-covers, least_row-least}
 use Rattle.pp_algebra.proofs.SameRow.{same_row-sound, same_row-itself}
-use Rattle.pp_sld.specs.Goals.{Shape, Program}
-use Rattle.pp_sld.specs.Trees.{Search, IsSearch}
 use Rattle.pp_sld.specs.Trace.{trace}
 use Rattle.pp_sld.specs.Leaves.{call, root, answer_rows, loose_rows}
-use Rattle.pp_sld.specs.Verdicts.{Mode, most, unique, consistent, Verdict, fail, same, nothing, unfinished, narrow, some_row, another, verdict}
-use Rattle.pp_sld.specs.Laws.{verdict_of, Deepens}
+use Rattle.pp_sld.specs.Verdicts.{Mode, most, unique, consistent, Verdict, same, nothing, unfinished, narrow, some_row, another, verdict}
+use Rattle.pp_sld.specs.Laws.{Deepens}
 use Rattle.pp_sld.proofs.Once.{once}
 use Rattle.pp_sld.proofs.CallCovers.{leaves_under_call, call-IsCanonical}
 use Rattle.pp_sld.proofs.Deeper.{Under, Grown, grows}

@@ -36,11 +36,9 @@ pub fn paths_keep_every_leaf()
 pub fn call_covers_what_is_found()
     ensures covers { CallCoversLeaves }
     ensures width { LeavesAreWide }
-{
-}
+{}
 
 /// A search that is given more depth may finish what was unfinished, and changes no other verdict.
 pub fn deepening_keeps_verdicts()
     ensures verdict { Deepens }
-{
-}
+{}
