@@ -1,54 +1,30 @@
 -- Findings joined in any order give the verdict of the whole lists.
-use Rattle.std.proofs.Common.{◌≡◌, ℕ, Bool, true, false, cond, ◌||◌, List, [], ◌∷◌, ◌++◌, Some, refl, ap, sym, ◌∙◌, subst, ◌⊎◌, inl, inr}
+use Rattle.std.proofs.Common.{◌≡◌, ℕ, Bool, true, false, cond, ◌||◌, List, [], ◌∷◌, ◌++◌, Some, refl, ap, sym, ◌∙◌, subst, ◌⊎◌, inl, inr, append-nil}
 use Rattle.pp_algebra.specs.Rows.{Row}
 use Rattle.pp_algebra.specs.Covers.{IsIn}
-use Rattle.pp_algebra.specs.Least.{least_row, least_list}
+use Rattle.pp_algebra.specs.Least.{least_list}
 use Rattle.pp_sld.specs.Verdicts.{Mode, most, unique, consistent, same, nothing, unfinished, narrow, some_row, another, verdict}
 use Rattle.pp_sld.specs.Findings.{Sole, no_row, two_rows, one_row, finds_most, finds_unique, finds_consistent, join_sole, sole_of, finding, join_option, join_finding, outcome, outcome_unique}
 use Rattle.pp_algebra.proofs.Order.{IsIn-left, IsIn-right}
 use Rattle.pp_algebra.proofs.Antisym.{IsIn-either}
 use Rattle.pp_algebra.specs.Canon.{same_row}
 use Rattle.pp_algebra.proofs.SameRow.{same_row-sound, same_row-itself}
-use Rattle.pp_algebra.proofs.Law.{joins_law}
-use Rattle.pp_algebra.specs.Joins.{Joins, one, two, rows_of, joined, AllOf, SameRows}
+use Rattle.pp_algebra.proofs.Sets.{least_of_same, least_in_parts}
+use Rattle.pp_algebra.specs.Joins.{AllOf, AreWideAs, SameRows}
 
-abbrev joins_of : Row → List Row → Joins
-joins_of r [] = one r
-joins_of r (q ∷ qs) = two (one r) (joins_of q qs)
-
-rows_of-joins_of : (r : Row) (rs : List Row) → rows_of (joins_of r rs) ≡ r ∷ rs
-rows_of-joins_of r [] = refl
-rows_of-joins_of r (q ∷ qs) = ap (λ x. r ∷ x) (rows_of-joins_of q qs)
-
-joined-joins_of : (n : ℕ) (r : Row) (rs : List Row) → AllOf n (r ∷ rs) → joined (joins_of r rs) ≡ least_row r rs
-joined-joins_of n r rs h = joins_law n r rs (joins_of r rs) h (λ q i. subst (IsIn q) (sym (rows_of-joins_of r rs)) i) (λ q i. subst (IsIn q) (rows_of-joins_of r rs) i)
-
--- least depends on which rows there are, and not on their order or number
-pub least_same : (n : ℕ) (r q : Row) (rs qs : List Row) → AllOf n (r ∷ rs) → SameRows (r ∷ rs) (q ∷ qs) → least_row r rs ≡ least_row q qs
-least_same n r q rs qs h s =
-    let hq = λ (p : Row) (i : IsIn p (q ∷ qs)). h p (s.1 p i) in
-    sym (joins_law n r rs (joins_of q qs) h (λ p i. subst (IsIn p) (sym (rows_of-joins_of q qs)) (s.0 p i)) (λ p i. s.1 p (subst (IsIn p) (rows_of-joins_of q qs) i)))
-    ∙ joined-joins_of n q qs hq
+as_wide : (n : ℕ) (r : Row) (rs : List Row) → AllOf n (r ∷ rs) → AreWideAs (r ∷ rs) r
+as_wide n r rs h q i = (h q i).1 ∙ sym (h r (inl refl)).1
 
 pub least_list_same : (n : ℕ) (rs qs : List Row) → AllOf n rs → SameRows rs qs → least_list rs ≡ least_list qs
 least_list_same n [] [] h s = refl
 least_list_same n [] (q ∷ qs) h s = absurd (s.1 q (inl refl))
 least_list_same n (r ∷ rs) [] h s = absurd (s.0 r (inl refl))
-least_list_same n (r ∷ rs) (q ∷ qs) h s = ap Some (least_same n r q rs qs h s)
-
-nil_right : (xs : List Row) → xs ++ [] ≡ xs
-nil_right [] = refl
-nil_right (x ∷ xs) = ap (λ y. x ∷ y) (nil_right xs)
+least_list_same n (r ∷ rs) (q ∷ qs) h s = ap Some (least_of_same r q rs qs (as_wide n r rs h) s)
 
 pub least_list_join : (n : ℕ) (rs qs : List Row) → AllOf n (rs ++ qs) → join_option (least_list rs) (least_list qs) ≡ least_list (rs ++ qs)
 least_list_join n [] qs h = refl
-least_list_join n (r ∷ rs) [] h = ap least_list (sym (nil_right (r ∷ rs)))
-least_list_join n (r ∷ rs) (q ∷ qs) h =
-    let left = joined-joins_of n r rs (λ p i. h p (IsIn-left p (r ∷ rs) (q ∷ qs) i)) in
-    let right = joined-joins_of n q qs (λ p i. h p (IsIn-right p (r ∷ rs) (q ∷ qs) i)) in
-    let both : rows_of (two (joins_of r rs) (joins_of q qs)) ≡ (r ∷ rs) ++ (q ∷ qs) = ap (λ x. x ++ rows_of (joins_of q qs)) (rows_of-joins_of r rs) ∙ ap (λ x. (r ∷ rs) ++ x) (rows_of-joins_of q qs) in
-    ap Some (ap (λ x. least_row x (least_row q qs ∷ [])) (sym left) ∙ ap (λ x. least_row (joined (joins_of r rs)) (x ∷ [])) (sym right)
-    ∙ joins_law n r (rs ++ q ∷ qs) (two (joins_of r rs) (joins_of q qs)) h (λ p i. subst (IsIn p) (sym both) i) (λ p i. subst (IsIn p) both i))
+least_list_join n (r ∷ rs) [] h = ap least_list (sym (append-nil (r ∷ rs)))
+least_list_join n (r ∷ rs) (q ∷ qs) h = ap Some (least_in_parts r q rs qs (as_wide n r (rs ++ q ∷ qs) h))
 
 some-append : (rs qs : List Row) → (some_row rs || some_row qs) ≡ some_row (rs ++ qs)
 some-append [] qs = refl
