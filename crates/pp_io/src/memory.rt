@@ -1,5 +1,5 @@
 // Ends in memory, of which a test says which calls fail.
-ghost use Rattle.std.specs.Prelude.{◌≡◌, ◌↔◌, ◌<◌, ◌≤◌, List, [], ◌++◌, length, min, take, drop, vec_len, Some, IfOk, OnErr, IsErr};
+ghost use Rattle.std.specs.Prelude.{◌≡◌, ◌↔◌, ◌<◌, ◌≤◌, [], ◌++◌, length, min, take, drop, vec_len, Some, IfOk, OnErr, IsErr};
 ghost use Rattle.pp_io.specs.Ends.{Rose, Gave, Took, ShowsEnd, IsRefused};
 ghost use Rattle.pp_io.specs.Memory.{MemoryEnd, IsNextFailing, FailedOnly, Left};
 

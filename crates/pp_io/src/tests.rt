@@ -1,5 +1,5 @@
 // What no contract says: that memory is found, and how often and with how many bytes a call is made.
-ghost use Rattle.std.specs.Prelude.{◌≡◌, ◌+◌, ◌-◌, ◌^◌, min, None, ℕ, length, IfOk};
+ghost use Rattle.std.specs.Prelude.{None};
 
 use super::*;
 use std::alloc::{AllocError, Global};
