@@ -1,2 +1,4 @@
 pub mod Members
 pub mod Canonical
+pub mod Positions
+pub mod Words

@@ -11,10 +11,14 @@ abbrev pub IsApart : ℤ → List (ℤ × ℤ) → ℤ → Type 0
 IsApart low [] high = low ≤ℤ high
 IsApart low (p ∷ ps) high = (low <ℤ p.0) × (p.0 ≤ℤ p.1) × IsApart (p.1 +ℤ pos 1) ps high
 
--- a finite domain: at least one interval, all within the integers of the language
+-- the same, within the integers of the language
+abbrev pub IsApartInside : List (ℤ × ℤ) → Type 0
+IsApartInside ps = IsApart (negsuc 1_000_000_000_000) ps (pos 1_000_000_000_001)
+
+-- a finite domain: at least one interval
 pub record IsDomain (ps : List (ℤ × ℤ)) : Type 0 where
   pub some : 0 < length ps
-  pub apart : IsApart (negsuc 1_000_000_000_000) ps (pos 1_000_000_000_001)
+  pub apart : IsApartInside ps
 
 -- v lies in one of the intervals
 abbrev pub Lies : List (ℤ × ℤ) → ℤ → Type 0
