@@ -100,3 +100,10 @@ not_empty (p ∷ ps) d e = let a = d.apart in
     let one : set.contains (set_of (p ∷ ps)) p.0 ≡ true = (contains_lies (p ∷ ps) p.0 d).1 (inl (omega (arith, ints), a.1)) in
     let none : set.contains (set_of (p ∷ ps)) p.0 ≡ false = ap (λ s. set.contains s p.0) e ∙ set.contains-empty int_cmp p.0 in
     absurd (cc)
+
+-- a test of the intervals is the test of the set
+pub tells_member : (ps qs rs : List (ℤ × ℤ)) (v : ℤ) (b : Bool) → IsDomain qs → ps ≡ qs → qs ≡ rs → Decides b (Lies ps v) → b ≡ set.contains (set_of rs) v
+tells_member ps qs rs v b d e f h =
+    let F : List (ℤ × ℤ) → Type 0 = IsDomain in
+    let G : List (ℤ × ℤ) → Type 0 = λ xs. Decides b (Lies xs v) in
+    same_from_decides _ _ (subst G (e ∙ f) h) (contains_lies rs v (subst F f d))

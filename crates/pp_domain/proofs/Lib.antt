@@ -2,3 +2,4 @@ pub mod Members
 pub mod Canonical
 pub mod Positions
 pub mod Words
+pub mod Ascending

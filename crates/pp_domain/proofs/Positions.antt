@@ -1,11 +1,14 @@
 -- Intervals by their places.
 use Rattle.std.proofs.Common.{◌≡◌, ℕ, ℤ, zero, suc, pos, negsuc, ◌+◌, ◌+ℤ◌, ◌-ℤ◌, ◌≤ℤ◌, ◌<ℤ◌, ◌<◌, ◌≤◌, ◌⊎◌, inl, inr, true, false, Bool, List, [], ◌∷◌, ◌++◌, refl, ap, sym, ◌∙◌, subst, arith, length, get_or, to_z, of_z, w64}
+use Rattle.std.specs.Prelude.{int_le}
+use Rattle.std.specs.Bool.{Decides}
 use Rattle.std.specs.List.{AllWithin}
+use Rattle.std.proofs.lemmas.Bool.Decides.{Decides-at, Decides-like}
 use Rattle.std.proofs.lemmas.Int.{ints}
 use Rattle.std.proofs.lemmas.List.{get_or_default}
-use Rattle.pp_domain.specs.Intervals.{Lies, IsApart, IsDomain}
+use Rattle.pp_domain.specs.Intervals.{Lies, IsApart, IsDomain, IsInteger, count}
 use Rattle.pp_domain.proofs.Canonical.{lies_above, lies_rest, apart_room}
-use Rattle.pp_domain.proofs.Words.{word_is}
+use Rattle.pp_domain.proofs.Words.{word_is, Decides-int_le}
 
 pub record IsWithin (low high : ℤ) (p : ℤ × ℤ) : Type 0 where
   pub above : low <ℤ p.0
@@ -73,3 +76,44 @@ after_less ps v n d a h e k d' l less =
     let r : get_or ps n d' ≡ get_or ps n d = get_or_default ps n d' d h in
     let r1 = ap (λ (z : ℤ × ℤ). z.1) r in
     omega (arith, ints, u, e, r1)
+
+-- what the code's test of the first interval that reaches w tells of v, which w is the word of
+pub place_tells : (ps : List (ℤ × ℤ)) (v w : ℤ) (n : ℕ) (d : ℤ × ℤ) → w ≡ v → IsDomain ps → n < length ps
+  → AllWithin (λ p. p.1 <ℤ w) ps 0 n → AllWithin (λ p. w ≤ℤ p.1) ps n (length ps) → Decides (int_le (to_z w64 (of_z w64 (get_or ps n d).0)) w) (Lies ps v)
+place_tells ps v w n d e a h before after =
+    let r = first_that_reaches ps w _ _ n d a.apart h before after in
+    let word = begin_word ps n d a h in
+    let t : Decides (int_le (to_z w64 (of_z w64 (get_or ps n d).0)) w) (Lies ps w) = Decides-at _ _ (ap (λ z. int_le z w) word) (Decides-like _ r.1 r.0 (Decides-int_le (get_or ps n d).0 w)) in
+    let F : ℤ → Type 0 = λ z. Decides (int_le (to_z w64 (of_z w64 (get_or ps n d).0)) w) (Lies ps z) in
+    subst F e t
+
+pub past_all : (ps : List (ℤ × ℤ)) (v w : ℤ) (n : ℕ) → w ≡ v → length ps ≤ n → n ≤ length ps → AllWithin (λ p. p.1 <ℤ w) ps 0 n → Lies ps v → ⊥
+past_all ps v w n e h k before l =
+    let all : n ≡ length ps = omega arith in
+    let F : ℕ → Type 0 = λ m. AllWithin (λ p. p.1 <ℤ w) ps 0 m in
+    none_reaches ps w (subst F all before) (subst (Lies ps) (sym e) l)
+
+-- ---- what a read of an interval gives, by its words
+
+pub begin_integer : (ps : List (ℤ × ℤ)) (k : ℕ) (d : ℤ × ℤ) → IsDomain ps → k < length ps → IsInteger (to_z w64 (of_z w64 (get_or ps k d).0))
+begin_integer ps k d a h =
+    let w = within ps _ _ k d a.apart h in
+    let i : IsInteger (get_or ps k d).0 = record { at_least = omega (arith, ints, w.above); at_most = omega (arith, ints, w.below, w.upward) } in
+    subst IsInteger (sym (begin_word ps k d a h)) i
+
+pub end_integer : (ps : List (ℤ × ℤ)) (k : ℕ) (d : ℤ × ℤ) → IsDomain ps → k < length ps → IsInteger (to_z w64 (of_z w64 (get_or ps k d).1))
+end_integer ps k d a h =
+    let w = within ps _ _ k d a.apart h in
+    let i : IsInteger (get_or ps k d).1 = record { at_least = omega (arith, ints, w.above, w.upward); at_most = omega (arith, ints, w.below) } in
+    subst IsInteger (sym (end_word ps k d a h)) i
+
+pub upward_words : (ps : List (ℤ × ℤ)) (k : ℕ) (d : ℤ × ℤ) → IsDomain ps → k < length ps → to_z w64 (of_z w64 (get_or ps k d).0) ≤ℤ to_z w64 (of_z w64 (get_or ps k d).1)
+upward_words ps k d a h =
+    let w = within ps _ _ k d a.apart h in
+    let e = begin_word ps k d a h in
+    let f = end_word ps k d a h in
+    omega (arith, ints, w.upward, e, f)
+
+pub count_words : (ps : List (ℤ × ℤ)) (k : ℕ) (d : ℤ × ℤ) → IsDomain ps → k < length ps
+  → count (to_z w64 (of_z w64 (get_or ps k d).0)) (to_z w64 (of_z w64 (get_or ps k d).1)) ≡ count (get_or ps k d).0 (get_or ps k d).1
+count_words ps k d a h = ap (λ z. count z (to_z w64 (of_z w64 (get_or ps k d).1))) (begin_word ps k d a h) ∙ ap (count (get_or ps k d).0) (end_word ps k d a h)

@@ -8,7 +8,7 @@ ghost use Rattle.pp_domain.specs.Sets.{set_of, IsDomainOf, IsDomainOrNone, IsNth
 use crate::counts::{nth_of, total};
 use crate::inclusion::all_lie;
 use crate::joining::joined;
-use crate::places::{ended_below, without_value};
+use crate::places::{lies_in, without_value};
 use crate::sharing::shared;
 
 use std::alloc::{AllocError, Global};
@@ -65,9 +65,7 @@ impl Domain {
     pub fn has(&self, value: i64) -> bool
         ensures { result ≡ set.contains (set_of self.now) value }
     {
-        let intervals = self.intervals.as_slice();
-        let place = ended_below(intervals, value);
-        place < intervals.len() && intervals[place].0 <= value
+        lies_in(self.intervals.as_slice(), value)
     }
 
     /// How many members there are.

@@ -1,5 +1,5 @@
 //! Where a value stands among intervals, and how it is taken out.
-ghost use Rattle.std.specs.Prelude.{◌≡◌, ◌++◌, ◌∷◌, [], ◌≤◌, ◌<ℤ◌, ◌≤ℤ◌, ◌≢◌, ◌↔◌, ℤ, length, IfOk, OnOk};
+ghost use Rattle.std.specs.Prelude.{◌≡◌, ◌++◌, ◌∷◌, [], ◌≤◌, ◌<ℤ◌, ◌≤ℤ◌, ◌≢◌, ◌↔◌, ℤ, length, IsTrue, IfOk, OnOk};
 ghost use Rattle.std.specs.List.{AllWithin};
 ghost use Rattle.pp_domain.specs.Intervals.{IsDomain, IsApartInside, Lies};
 
@@ -23,6 +23,15 @@ pub fn ended_below(intervals: &[(i64, i64)], value: i64) -> usize
         }
     }
     low
+}
+
+// Whether `value` lies in one of the intervals.
+pub fn lies_in(intervals: &[(i64, i64)], value: i64) -> bool
+    requires { IsDomain intervals.now }
+    ensures { IsTrue result ↔ Lies intervals.now value }
+{
+    let place = ended_below(intervals, value);
+    place < intervals.len() && intervals[place].0 <= value
 }
 
 // Adds the interval from `low` to `high` where it holds an integer.
