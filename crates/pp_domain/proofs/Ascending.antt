@@ -103,3 +103,27 @@ length_at ps n d h =
 pub integers_past : (ps : List (ℤ × ℤ)) (n : ℕ) → length ps ≤ n → integers (drop n ps) ≡ []
 unfolding integers
 integers_past ps n h = at_drop_all integers ps n h
+
+-- ---- the integer at a place
+
+pub get-run : (low : ℤ) (n k : ℕ) (ys : List ℤ) → k < n → slice_get (run low n ++ ys) k ≡ Some (low +ℤ pos k)
+unfolding run
+get-run low zero k ys h = absurd (omega arith)
+get-run low (suc n) zero ys h = ap Some (omega (arith, ints))
+get-run low (suc n) (suc k) ys h = get-run (low +ℤ pos 1) n k ys (omega arith) ∙ ap Some (omega (arith, ints))
+
+pub get_past-run : (low : ℤ) (n k : ℕ) (ys : List ℤ) → n ≤ k → slice_get (run low n ++ ys) k ≡ slice_get ys (k - n)
+unfolding run
+get_past-run low zero k ys h = ap (slice_get ys) (omega arith)
+get_past-run low (suc n) zero ys h = absurd (omega arith)
+get_past-run low (suc n) (suc k) ys h = get_past-run (low +ℤ pos 1) n k ys (omega arith) ∙ ap (slice_get ys) (omega arith)
+
+pub get_here : (ps : List (ℤ × ℤ)) (n k : ℕ) (d : ℤ × ℤ) → n < length ps → k < count (get_or ps n d).0 (get_or ps n d).1 → slice_get (integers (drop n ps)) k ≡ Some ((get_or ps n d).0 +ℤ pos k)
+get_here ps n k d h less = ap (λ xs. slice_get xs k) (integers_at ps n d h) ∙ get-run (get_or ps n d).0 _ k (integers (drop (n + 1) ps)) less
+
+pub get_later : (ps : List (ℤ × ℤ)) (n k : ℕ) (d : ℤ × ℤ) → n < length ps → count (get_or ps n d).0 (get_or ps n d).1 ≤ k
+  → slice_get (integers (drop n ps)) k ≡ slice_get (integers (drop (n + 1) ps)) (k - count (get_or ps n d).0 (get_or ps n d).1)
+get_later ps n k d h more = ap (λ xs. slice_get xs k) (integers_at ps n d h) ∙ get_past-run (get_or ps n d).0 _ k (integers (drop (n + 1) ps)) more
+
+pub get_past_all : (ps : List (ℤ × ℤ)) (n k : ℕ) → length ps ≤ n → slice_get (integers (drop n ps)) k ≡ None
+get_past_all ps n k h = ap (λ xs. slice_get xs k) (integers_past ps n h)
