@@ -47,7 +47,7 @@ integers-ascending (p ∷ ps) low high a =
     let rest = ascending_down (p.1 +ℤ pos 1) p.1 (integers ps) (omega (arith, ints)) (integers-ascending ps (p.1 +ℤ pos 1) high a.2) in
     ascending_down (p.0 -ℤ pos 1) low _ (omega (arith, ints)) (run-ascending p.0 (count p.0 p.1) p.1 (integers ps) (omega (arith, ints, e)) rest)
 
-one_of_above : (low v : ℤ) (xs : List ℤ) → IsAscending low xs → one_of v xs ≡ true → low <ℤ v
+pub one_of_above : (low v : ℤ) (xs : List ℤ) → IsAscending low xs → one_of v xs ≡ true → low <ℤ v
 one_of_above low v [] a h = absurd (cc)
 one_of_above low v (x ∷ xs) a h = go (int_eq v x) refl h (one_of_above x v xs a.1)
   where

@@ -3,3 +3,4 @@ pub mod Canonical
 pub mod Positions
 pub mod Words
 pub mod Ascending
+pub mod Nth
