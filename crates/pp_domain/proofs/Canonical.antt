@@ -107,3 +107,16 @@ tells_member ps qs rs v b d e f h =
     let F : List (ℤ × ℤ) → Type 0 = IsDomain in
     let G : List (ℤ × ℤ) → Type 0 = λ xs. Decides b (Lies xs v) in
     same_from_decides _ _ (subst G (e ∙ f) h) (contains_lies rs v (subst F f d))
+
+subset_lies : (ps qs : List (ℤ × ℤ)) → IsDomain ps → IsDomain qs → Decides (set.is_subset (set_of ps) (set_of qs)) (AllLie ps qs)
+subset_lies ps qs d e =
+    (λ h v l. (contains_lies qs v e).0 (set.is_subset-contains int_cmp_total (set_of ps) (set_of qs) h v ((contains_lies ps v d).1 l)),
+     λ h. set.contains-is_subset int_cmp_total (set_of ps) (set_of qs) (λ v m. (contains_lies qs v e).1 (h v ((contains_lies ps v d).0 m))))
+
+-- a test of inclusion of intervals is that of the sets
+pub tells_inclusion : (ps ps' ps'' qs qs' qs'' : List (ℤ × ℤ)) (b : Bool) → IsDomain ps' → IsDomain qs' → ps ≡ ps' → ps' ≡ ps'' → qs ≡ qs' → qs' ≡ qs''
+  → Decides b (AllLie ps qs) → b ≡ set.is_subset (set_of ps'') (set_of qs'')
+tells_inclusion ps ps' ps'' qs qs' qs'' b d e p p' q q' h =
+    let F : List (ℤ × ℤ) → Type 0 = λ xs. Decides b (AllLie xs qs) in
+    let G : List (ℤ × ℤ) → Type 0 = λ xs. Decides b (AllLie ps'' xs) in
+    same_from_decides _ _ (subst G (q ∙ q') (subst F (p ∙ p') h)) (subset_lies ps'' qs'' (subst IsDomain p' d) (subst IsDomain q' e))

@@ -4,3 +4,4 @@ pub mod Positions
 pub mod Words
 pub mod Ascending
 pub mod Nth
+pub mod Inside

@@ -6,6 +6,13 @@ pub record IsInteger (n : ℤ) : Type 0 where
   pub at_least : negsuc 999_999_999_999 ≤ℤ n
   pub at_most : n ≤ℤ pos 1_000_000_000_000
 
+-- the integers of the language are those above the one and below the other
+abbrev pub lower_limit : ℤ
+lower_limit = negsuc 1_000_000_000_000
+
+abbrev pub upper_limit : ℤ
+upper_limit = pos 1_000_000_000_001
+
 -- ascending, disjoint and not adjacent, all above `low` and below `high`
 abbrev pub IsApart : ℤ → List (ℤ × ℤ) → ℤ → Type 0
 IsApart low [] high = low ≤ℤ high
@@ -13,7 +20,7 @@ IsApart low (p ∷ ps) high = (low <ℤ p.0) × (p.0 ≤ℤ p.1) × IsApart (p.1
 
 -- the same, within the integers of the language
 abbrev pub IsApartInside : List (ℤ × ℤ) → Type 0
-IsApartInside ps = IsApart (negsuc 1_000_000_000_000) ps (pos 1_000_000_000_001)
+IsApartInside ps = IsApart lower_limit ps upper_limit
 
 -- a finite domain: at least one interval
 pub record IsDomain (ps : List (ℤ × ℤ)) : Type 0 where
