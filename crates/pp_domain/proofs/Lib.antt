@@ -5,3 +5,4 @@ pub mod Words
 pub mod Ascending
 pub mod Nth
 pub mod Inside
+pub mod Meet

@@ -17,3 +17,6 @@ Decides-int_lt x y = (λ h. grind (arith, ints), λ h. grind (arith, ints))
 
 pub Decides-int_le : (x y : ℤ) → Decides (int_le x y) (x ≤ℤ y)
 Decides-int_le x y = (λ h. grind (arith, ints), λ h. grind (arith, ints))
+
+pub not_less : (x y : ℤ) → int_lt x y ≡ false → y ≤ℤ x
+not_less x y h = grind (arith, ints)
