@@ -6,3 +6,4 @@ pub mod Ascending
 pub mod Nth
 pub mod Inside
 pub mod Meet
+pub mod Operations
