@@ -7,3 +7,4 @@ pub mod Nth
 pub mod Inside
 pub mod Meet
 pub mod Operations
+pub mod Without

@@ -1,5 +1,5 @@
 //! Where a value stands among intervals, and how it is taken out.
-ghost use Rattle.std.specs.Prelude.{◌≡◌, ◌++◌, ◌∷◌, [], ◌≤◌, ◌<ℤ◌, ◌≤ℤ◌, ◌≢◌, ◌↔◌, ℤ, length, IsTrue, IfOk, OnOk};
+ghost use Rattle.std.specs.Prelude.{◌≡◌, ◌++◌, ◌∷◌, [], ◌<◌, ◌≤◌, ◌<ℤ◌, ◌≤ℤ◌, ◌≢◌, ◌↔◌, ℤ, pos, length, slice_index_or, IsTrue, IfOk, OnOk};
 ghost use Rattle.std.specs.List.{AllWithin};
 ghost use Rattle.pp_domain.specs.Intervals.{IsDomain, IsApartInside, Lies};
 
@@ -63,6 +63,10 @@ pub fn without_value(alloc: Global, intervals: &[(i64, i64)], value: i64) -> Res
 fn split_at(alloc: Global, intervals: &[(i64, i64)], place: usize, value: i64) -> Result<Vec<(i64, i64)>, AllocError>
     requires domain { IsDomain intervals.now }
     requires place { place < length intervals.now }
+    requires begins { (slice_index_or intervals.now place (pos 0, pos 0)).0 ≤ℤ value }
+    requires ends { value ≤ℤ (slice_index_or intervals.now place (pos 0, pos 0)).1 }
+    ensures apart { IfOk result (λ rest. IsApartInside rest.items) }
+    ensures others { IfOk result (λ rest. (v : ℤ) → Lies rest.items v ↔ (Lies intervals.now v × (v ≢ value))) }
 {
     let (low, high) = intervals[place];
     let mut rest = Vec::with_capacity(alloc, intervals.len() + 1)?;
