@@ -8,3 +8,4 @@ pub mod Inside
 pub mod Meet
 pub mod Operations
 pub mod Without
+pub mod Union
