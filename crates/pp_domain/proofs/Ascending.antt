@@ -127,3 +127,13 @@ get_later ps n k d h more = ap (λ xs. slice_get xs k) (integers_at ps n d h) �
 
 pub get_past_all : (ps : List (ℤ × ℤ)) (n k : ℕ) → length ps ≤ n → slice_get (integers (drop n ps)) k ≡ None
 get_past_all ps n k h = ap (λ xs. slice_get xs k) (integers_past ps n h)
+
+one_run : (v : ℤ) (n : ℕ) → n ≡ 1 → run v n ++ [] ≡ v ∷ []
+unfolding run
+one_run v zero e = absurd (omega arith)
+one_run v (suc zero) e = refl
+one_run v (suc (suc n)) e = absurd (omega arith)
+
+pub one_value_alone : (v : ℤ) → set_of ((v, v) ∷ []) ≡ set.from_list (v ∷ [])
+unfolding set_of integers
+one_value_alone v = let e = count_is v v (omega (arith, ints)) in ap set.from_list (one_run v (count v v) (omega (arith, ints, e)))

@@ -96,3 +96,21 @@ nth_none ps k r d e =
     let n = get_none (integers ps) k in
     let l = len_is ps d in
     (λ h. let m = n.0 (subst IsNone e h) in omega (arith, l, m), λ h. subst IsNone (sym e) (n.1 (omega (arith, l, h))))
+
+listed : (xs : List ℤ) (v : ℤ) → one_of v xs ≡ true → (k : ℕ) × (slice_get xs k ≡ Some v)
+listed [] v h = absurd (cc)
+listed (x ∷ xs) v h = go (either_true (int_eq v x) (one_of v xs) h) (listed xs v)
+  where
+    go : (int_eq v x ≡ true) ⊎ (one_of v xs ≡ true) → (one_of v xs ≡ true → (k : ℕ) × (slice_get xs k ≡ Some v)) → (k : ℕ) × (slice_get (x ∷ xs) k ≡ Some v)
+    go (inl e) later = (0, ap Some (sym ((Decides-int_eq v x).0 e)))
+    go (inr m) later = let r = later m in (suc r.0, r.1)
+
+listed_at : (ps : List (ℤ × ℤ)) (k : ℕ) (v : ℤ) → IsDomain ps → IsNth (set_of ps) k v → slice_get (integers ps) k ≡ Some v
+unfolding set_of
+listed_at ps k v d n =
+    let r = listed (integers ps) v (sym (set.contains-from_list int_cmp_total (integers ps) v) ∙ n.0) in
+    let m = is_nth ps r.0 v d r.1 in
+    ap (slice_get (integers ps)) (sym n.1 ∙ m.1) ∙ r.1
+
+pub places_agree : (ps : List (ℤ × ℤ)) (k : ℕ) (v : ℤ) → IsDomain ps → IsNth (set_of ps) k v ↔ (slice_get (integers ps) k ≡ Some v)
+places_agree ps k v d = (listed_at ps k v d, is_nth ps k v d)
