@@ -1,18 +1,15 @@
 -- The integers of intervals as an ascending list, and how many there are.
-use Rattle.std.proofs.Common.{◌≡◌, ℕ, ℤ, zero, suc, pos, negsuc, ◌+◌, ◌-◌, ◌+ℤ◌, ◌-ℤ◌, ◌≤ℤ◌, ◌<ℤ◌, ◌<◌, ◌≤◌, ◌⊎◌, inl, inr, true, false, Bool, List, [], ◌∷◌, ◌++◌, refl, ap, sym, ◌∙◌, subst, arith, length, drop, get_or, cond, length-append, Option, Some, None}
-use Rattle.std.specs.Prelude.{slice_get, int_lt, ◌||◌, ◌&&◌, IsTrue, IsNone, IfSome, ◌↔◌}
+use Rattle.std.proofs.Common.{◌≡◌, ℕ, ℤ, zero, suc, pos, ◌+◌, ◌-◌, ◌+ℤ◌, ◌-ℤ◌, ◌≤ℤ◌, ◌<ℤ◌, ◌<◌, ◌≤◌, true, false, Bool, List, [], ◌∷◌, ◌++◌, refl, ap, ◌∙◌, subst, arith, length, drop, get_or, cond, length-append, Some, None}
+use Rattle.std.specs.Prelude.{slice_get, ◌||◌}
 use Rattle.std.specs.FinSet as set
 use Rattle.std.specs.Cmp.{int_cmp_total}
 use Rattle.std.specs.Ordering.{int_cmp, int_eq}
-use Rattle.std.specs.Bool.{Decides}
 use Rattle.std.proofs.lemmas.Int.{ints}
 use Rattle.std.proofs.lemmas.List.{at_drop_more, at_drop_all}
-use Rattle.std.proofs.lemmas.Bool.Decides.{same_from_decides, Decides-like, Decides-at, Decides-and, Decides-int_eq}
-use Rattle.pp_domain.specs.Intervals.{Lies, IsApart, IsDomain, run, count, integers}
-use Rattle.pp_domain.specs.Sets.{Integers, set_of, IsNth}
-use Rattle.pp_domain.proofs.Members.{count_is, one_of, one_of-run, one_of-integers}
-use Rattle.pp_domain.proofs.Canonical.{lies_above, apart_room}
-use Rattle.pp_domain.proofs.Words.{Decides-int_lt}
+use Rattle.std.proofs.lemmas.Bool.Decides.{Decides-int_eq}
+use Rattle.pp_domain.specs.Intervals.{IsApart, IsDomain, run, count, integers}
+use Rattle.pp_domain.specs.Sets.{set_of}
+use Rattle.pp_domain.proofs.Members.{count_is, one_of}
 
 -- ---- lists of integers that ascend
 
@@ -122,7 +119,7 @@ pub get_here : (ps : List (ℤ × ℤ)) (n k : ℕ) (d : ℤ × ℤ) → n < len
 get_here ps n k d h less = ap (λ xs. slice_get xs k) (integers_at ps n d h) ∙ get-run (get_or ps n d).0 _ k (integers (drop (n + 1) ps)) less
 
 pub get_later : (ps : List (ℤ × ℤ)) (n k : ℕ) (d : ℤ × ℤ) → n < length ps → count (get_or ps n d).0 (get_or ps n d).1 ≤ k
-  → slice_get (integers (drop n ps)) k ≡ slice_get (integers (drop (n + 1) ps)) (k - count (get_or ps n d).0 (get_or ps n d).1)
+    → slice_get (integers (drop n ps)) k ≡ slice_get (integers (drop (n + 1) ps)) (k - count (get_or ps n d).0 (get_or ps n d).1)
 get_later ps n k d h more = ap (λ xs. slice_get xs k) (integers_at ps n d h) ∙ get_past-run (get_or ps n d).0 _ k (integers (drop (n + 1) ps)) more
 
 pub get_past_all : (ps : List (ℤ × ℤ)) (n k : ℕ) → length ps ≤ n → slice_get (integers (drop n ps)) k ≡ None

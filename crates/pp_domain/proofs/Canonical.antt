@@ -1,5 +1,5 @@
 -- Lists of intervals with the same integers are the same list.
-use Rattle.std.proofs.Common.{◌≡◌, ℕ, ℤ, zero, suc, pos, negsuc, ◌+◌, ◌+ℤ◌, ◌-ℤ◌, ◌≤ℤ◌, ◌<ℤ◌, ◌<◌, ◌≤◌, ◌⊎◌, inl, inr, true, false, Bool, List, [], ◌∷◌, ◌++◌, refl, ap, sym, ◌∙◌, subst, arith, length}
+use Rattle.std.proofs.Common.{◌≡◌, ℤ, pos, ◌+ℤ◌, ◌≤ℤ◌, ◌<ℤ◌, inl, inr, true, false, Bool, List, [], ◌∷◌, refl, ap, sym, ◌∙◌, subst, arith}
 use Rattle.std.specs.FinSet as set
 use Rattle.std.specs.Cmp.{int_cmp_total}
 use Rattle.std.specs.Ordering.{int_cmp}
@@ -109,13 +109,14 @@ tells_member ps qs rs v b d e f h =
     same_from_decides _ _ (subst G (e ∙ f) h) (contains_lies rs v (subst F f d))
 
 subset_lies : (ps qs : List (ℤ × ℤ)) → IsDomain ps → IsDomain qs → Decides (set.is_subset (set_of ps) (set_of qs)) (AllLie ps qs)
-subset_lies ps qs d e =
-    (λ h v l. (contains_lies qs v e).0 (set.is_subset-contains int_cmp_total (set_of ps) (set_of qs) h v ((contains_lies ps v d).1 l)),
-     λ h. set.contains-is_subset int_cmp_total (set_of ps) (set_of qs) (λ v m. (contains_lies qs v e).1 (h v ((contains_lies ps v d).0 m))))
+subset_lies ps qs d e = (
+  λ h v l. (contains_lies qs v e).0 (set.is_subset-contains int_cmp_total (set_of ps) (set_of qs) h v ((contains_lies ps v d).1 l)),
+  λ h. set.contains-is_subset int_cmp_total (set_of ps) (set_of qs) (λ v m. (contains_lies qs v e).1 (h v ((contains_lies ps v d).0 m))),
+)
 
 -- a test of inclusion of intervals is that of the sets
 pub tells_inclusion : (ps ps' ps'' qs qs' qs'' : List (ℤ × ℤ)) (b : Bool) → IsDomain ps' → IsDomain qs' → ps ≡ ps' → ps' ≡ ps'' → qs ≡ qs' → qs' ≡ qs''
-  → Decides b (AllLie ps qs) → b ≡ set.is_subset (set_of ps'') (set_of qs'')
+    → Decides b (AllLie ps qs) → b ≡ set.is_subset (set_of ps'') (set_of qs'')
 tells_inclusion ps ps' ps'' qs qs' qs'' b d e p p' q q' h =
     let F : List (ℤ × ℤ) → Type 0 = λ xs. Decides b (AllLie xs qs) in
     let G : List (ℤ × ℤ) → Type 0 = λ xs. Decides b (AllLie ps'' xs) in

@@ -1,10 +1,10 @@
 -- One step of the walk that tells whether all integers of one list lie in another.
-use Rattle.std.proofs.Common.{◌≡◌, ℕ, ℤ, zero, suc, pos, ◌+◌, ◌+ℤ◌, ◌≤ℤ◌, ◌<ℤ◌, ◌<◌, ◌≤◌, ◌⊎◌, inl, inr, true, false, Bool, List, [], ◌∷◌, refl, ap, sym, ◌∙◌, subst, arith, length, drop, get_or}
+use Rattle.std.proofs.Common.{◌≡◌, ℕ, ℤ, zero, suc, pos, ◌+◌, ◌+ℤ◌, ◌≤ℤ◌, ◌<ℤ◌, ◌<◌, ◌≤◌, inl, inr, true, false, List, [], ◌∷◌, sym, subst, arith, length, drop, get_or}
 use Rattle.std.specs.Prelude.{◌↔◌}
 use Rattle.std.proofs.lemmas.Int.{ints}
 use Rattle.std.proofs.lemmas.List.{drop_more, drop_all}
 use Rattle.pp_domain.specs.Intervals.{Lies, IsApart, IsApartInside, IsDomain, lower_limit, upper_limit}
-use Rattle.pp_domain.proofs.Canonical.{AllLie, lies_above, apart_room, begins_later, ends_earlier}
+use Rattle.pp_domain.proofs.Canonical.{AllLie, lies_above, begins_later, ends_earlier}
 use Rattle.pp_domain.proofs.Positions.{within}
 
 pub apart_down : (ps : List (ℤ × ℤ)) (below low high : ℤ) → below ≤ℤ low → IsApart low ps high → IsApart below ps high
@@ -36,29 +36,31 @@ in_first p q ps qs begins ends h v (inr i) = h v i
 -- ---- over the rests
 
 pub pass_other : (ps qs : List (ℤ × ℤ)) (i j : ℕ) (d : ℤ × ℤ) → IsDomain ps → IsDomain qs → i < length ps → j < length qs → (get_or qs j d).1 <ℤ (get_or ps i d).1
-  → AllLie (drop i ps) (drop j qs) ↔ AllLie (drop i ps) (drop (j + 1) qs)
+    → AllLie (drop i ps) (drop j qs) ↔ AllLie (drop i ps) (drop (j + 1) qs)
 pass_other ps qs i j d a b h k less =
     let e = drop_more ps i d h in
     let f = drop_more qs j d k in
     let a' = apart_at ps i d a h in
-    let b' = apart_at qs j d b k in
-    (λ all. subst (λ (xs : List (ℤ × ℤ)). AllLie xs (drop (j + 1) qs)) (sym e)
-      (not_here (get_or ps i d) (get_or qs j d) (drop (i + 1) ps) (drop (j + 1) qs) lower_limit upper_limit a' b' less
-        (subst (λ (xs : List (ℤ × ℤ)). AllLie xs (get_or qs j d ∷ drop (j + 1) qs)) e (subst (AllLie (drop i ps)) f all))),
-     λ all v l. subst (λ (xs : List (ℤ × ℤ)). Lies xs v) (sym f) (inr (all v l)))
+    let b' = apart_at qs j d b k in (
+      λ all. subst (λ (xs : List (ℤ × ℤ)). AllLie xs (drop (j + 1) qs)) (sym e)
+          (not_here (get_or ps i d) (get_or qs j d) (drop (i + 1) ps) (drop (j + 1) qs) lower_limit upper_limit a' b' less
+          (subst (λ (xs : List (ℤ × ℤ)). AllLie xs (get_or qs j d ∷ drop (j + 1) qs)) e (subst (AllLie (drop i ps)) f all))),
+      λ all v l. subst (λ (xs : List (ℤ × ℤ)). Lies xs v) (sym f) (inr (all v l)),
+    )
 
 pub pass_this : (ps qs : List (ℤ × ℤ)) (i j : ℕ) (d : ℤ × ℤ) → i < length ps → j < length qs → (get_or qs j d).0 ≤ℤ (get_or ps i d).0 → (get_or ps i d).1 ≤ℤ (get_or qs j d).1
-  → AllLie (drop i ps) (drop j qs) ↔ AllLie (drop (i + 1) ps) (drop j qs)
+    → AllLie (drop i ps) (drop j qs) ↔ AllLie (drop (i + 1) ps) (drop j qs)
 pass_this ps qs i j d h k begins ends =
     let e = drop_more ps i d h in
-    let f = drop_more qs j d k in
-    (λ all v l. all v (subst (λ (xs : List (ℤ × ℤ)). Lies xs v) (sym e) (inr l)),
-     λ all. subst (λ (xs : List (ℤ × ℤ)). AllLie xs (drop j qs)) (sym e)
-      (subst (AllLie (get_or ps i d ∷ drop (i + 1) ps)) (sym f)
-        (in_first (get_or ps i d) (get_or qs j d) (drop (i + 1) ps) (drop (j + 1) qs) begins ends (subst (AllLie (drop (i + 1) ps)) f all))))
+    let f = drop_more qs j d k in (
+      λ all v l. all v (subst (λ (xs : List (ℤ × ℤ)). Lies xs v) (sym e) (inr l)),
+      λ all. subst (λ (xs : List (ℤ × ℤ)). AllLie xs (drop j qs)) (sym e)
+          (subst (AllLie (get_or ps i d ∷ drop (i + 1) ps)) (sym f)
+          (in_first (get_or ps i d) (get_or qs j d) (drop (i + 1) ps) (drop (j + 1) qs) begins ends (subst (AllLie (drop (i + 1) ps)) f all))),
+    )
 
 pub begins_before : (ps qs : List (ℤ × ℤ)) (i j : ℕ) (d : ℤ × ℤ) → IsDomain ps → IsDomain qs → i < length ps → j < length qs → (get_or ps i d).0 <ℤ (get_or qs j d).0
-  → AllLie (drop i ps) (drop j qs) → ⊥
+    → AllLie (drop i ps) (drop j qs) → ⊥
 begins_before ps qs i j d a b h k less all =
     let e = drop_more ps i d h in
     let f = drop_more qs j d k in

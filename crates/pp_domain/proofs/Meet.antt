@@ -1,14 +1,14 @@
 -- One step of the walk that collects what two lists of intervals share.
-use Rattle.std.proofs.Common.{◌≡◌, ℕ, ℤ, zero, suc, pos, ◌+◌, ◌+ℤ◌, ◌≤ℤ◌, ◌<ℤ◌, ◌<◌, ◌≤◌, ◌⊎◌, inl, inr, List, [], ◌∷◌, ◌++◌, refl, ap, sym, ◌∙◌, subst, arith, length, drop, get_or, to_z, of_z, w64}
+use Rattle.std.proofs.Common.{◌≡◌, ℕ, ℤ, pos, ◌+◌, ◌+ℤ◌, ◌≤ℤ◌, ◌<ℤ◌, ◌<◌, ◌≤◌, ◌⊎◌, inl, inr, List, [], ◌∷◌, ◌++◌, ap, sym, ◌∙◌, subst, arith, length, drop, get_or, to_z, of_z, w64}
 use Rattle.std.specs.Prelude.{◌↔◌}
 use Rattle.std.proofs.lemmas.Int.{ints, clamps, by_lt_z}
 use Rattle.std.specs.Int.{int_max, int_min}
 use Rattle.std.proofs.lemmas.List.{drop_more, drop_all}
 use Rattle.pp_domain.specs.Intervals.{Lies, IsApart, IsApartInside, IsDomain, lower_limit, upper_limit}
-use Rattle.pp_domain.proofs.Canonical.{lies_above, lies_first, apart_room}
+use Rattle.pp_domain.proofs.Canonical.{lies_first, apart_room}
 use Rattle.pp_domain.proofs.Words.{word_is}
 use Rattle.pp_domain.proofs.Positions.{within, begin_word, end_word}
-use Rattle.pp_domain.proofs.Inside.{apart_down, apart_drop, apart_at, step}
+use Rattle.pp_domain.proofs.Inside.{apart_down, apart_at, step}
 
 pub lies-append : (xs ys : List (ℤ × ℤ)) (v : ℤ) → Lies (xs ++ ys) v ↔ (Lies xs v ⊎ Lies ys v)
 lies-append [] ys v = (λ h. inr h, back)
@@ -86,21 +86,28 @@ pub record IsSharedBy (p q : ℤ × ℤ) (m n : ℤ) : Type 0 where
   pub first : p.1 ≤ℤ q.1
 
 next_end : (done next : List (ℤ × ℤ)) (p q : ℤ × ℤ) (ps qs : List (ℤ × ℤ)) (m n : ℤ) → IsSharedBy p q m n → IsPushed done next m n
-  → IsApart lower_limit (p ∷ ps) upper_limit → EndsBefore done (p ∷ ps) (q ∷ qs) → EndsBefore next ps (q ∷ qs)
+    → IsApart lower_limit (p ∷ ps) upper_limit → EndsBefore done (p ∷ ps) (q ∷ qs) → EndsBefore next ps (q ∷ qs)
 next_end done next p q ps qs m n s u a e = by_lt_z n m
-    (λ less. record { end = e.end; done_apart = subst (λ (xs : List (ℤ × ℤ)). IsApart lower_limit xs e.end) (sym (u.none less)) e.done_apart; one_after = elim e.one_after [
-      | inl h ↦ inl (apart_down ps e.end (p.1 +ℤ pos 1) upper_limit (omega (arith, ints, h.0, h.1)) h.2)
-      | inr h ↦ inr h
-    ] })
-    (λ more. record { end = n +ℤ pos 1; done_apart = apart_pushed done next m n lower_limit e.end u more (before e.one_after) e.done_apart;
-      one_after = inl (subst (λ (z : ℤ). IsApart (z +ℤ pos 1) ps upper_limit) (sym s.ends) a.2) })
+    (λ less. record {
+      end = e.end;
+      done_apart = subst (λ (xs : List (ℤ × ℤ)). IsApart lower_limit xs e.end) (sym (u.none less)) e.done_apart;
+      one_after = elim e.one_after [
+        | inl h ↦ inl (apart_down ps e.end (p.1 +ℤ pos 1) upper_limit (omega (arith, ints, h.0, h.1)) h.2)
+        | inr h ↦ inr h
+      ];
+    })
+    (λ more. record {
+      end = n +ℤ pos 1;
+      done_apart = apart_pushed done next m n lower_limit e.end u more (before e.one_after) e.done_apart;
+      one_after = inl (subst (λ (z : ℤ). IsApart (z +ℤ pos 1) ps upper_limit) (sym s.ends) a.2);
+    })
   where
     before : IsApart e.end (p ∷ ps) upper_limit ⊎ IsApart e.end (q ∷ qs) upper_limit → e.end <ℤ m
     before (inl h) = omega (arith, ints, h.0, s.left)
     before (inr h) = omega (arith, ints, h.0, s.right)
 
 next_lies : (done next : List (ℤ × ℤ)) (p q : ℤ × ℤ) (ps qs : List (ℤ × ℤ)) (m n v : ℤ) → IsSharedBy p q m n → IsPushed done next m n → IsApart (q.1 +ℤ pos 1) qs upper_limit
-  → (Lies done v ⊎ (Lies (p ∷ ps) v × Lies (q ∷ qs) v)) ↔ (Lies next v ⊎ (Lies ps v × Lies (q ∷ qs) v))
+    → (Lies done v ⊎ (Lies (p ∷ ps) v × Lies (q ∷ qs) v)) ↔ (Lies next v ⊎ (Lies ps v × Lies (q ∷ qs) v))
 next_lies done next p q ps qs m n v s u b = (there, back)
   where
     there : Lies done v ⊎ (Lies (p ∷ ps) v × Lies (q ∷ qs) v) → Lies next v ⊎ (Lies ps v × Lies (q ∷ qs) v)
@@ -148,7 +155,7 @@ collects_none ps qs a = record {
 }
 
 pub collects_more : (ps qs : List (ℤ × ℤ)) (i j : ℕ) (d : ℤ × ℤ) (done next : List (ℤ × ℤ)) (m n : ℤ) → IsDomain ps → IsDomain qs → i < length ps → j < length qs
-  → IsSharedBy (get_or ps i d) (get_or qs j d) m n → IsPushed done next m n → Collects ps qs i j done → Collects ps qs (i + 1) j next
+    → IsSharedBy (get_or ps i d) (get_or qs j d) m n → IsPushed done next m n → Collects ps qs i j done → Collects ps qs (i + 1) j next
 collects_more ps qs i j d done next m n a b h k s u c =
     let e = drop_more ps i d h in
     let f = drop_more qs j d k in
@@ -158,11 +165,11 @@ collects_more ps qs i j d done next m n a b h k s u c =
       i_bound = omega arith;
       j_bound = c.j_bound;
       apart = subst (EndsBefore next (drop (i + 1) ps)) (sym f) (next_end done next (get_or ps i d) (get_or qs j d) (drop (i + 1) ps) (drop (j + 1) qs) m n s u a'
-        (subst (EndsBefore done (get_or ps i d ∷ drop (i + 1) ps)) f (subst (λ (xs : List (ℤ × ℤ)). EndsBefore done xs (drop j qs)) e c.apart)));
+          (subst (EndsBefore done (get_or ps i d ∷ drop (i + 1) ps)) f (subst (λ (xs : List (ℤ × ℤ)). EndsBefore done xs (drop j qs)) e c.apart)));
       lies = λ v. step (c.lies v)
-        (subst (λ (xs : List (ℤ × ℤ)). (Lies done v ⊎ (Lies xs v × Lies (drop j qs) v)) ↔ (Lies next v ⊎ (Lies (drop (i + 1) ps) v × Lies (drop j qs) v))) (sym e)
+          (subst (λ (xs : List (ℤ × ℤ)). (Lies done v ⊎ (Lies xs v × Lies (drop j qs) v)) ↔ (Lies next v ⊎ (Lies (drop (i + 1) ps) v × Lies (drop j qs) v))) (sym e)
           (subst (λ (ys : List (ℤ × ℤ)). (Lies done v ⊎ (Lies (get_or ps i d ∷ drop (i + 1) ps) v × Lies ys v)) ↔ (Lies next v ⊎ (Lies (drop (i + 1) ps) v × Lies ys v))) (sym f)
-            (next_lies done next (get_or ps i d) (get_or qs j d) (drop (i + 1) ps) (drop (j + 1) qs) m n v s u b'.2)));
+          (next_lies done next (get_or ps i d) (get_or qs j d) (drop (i + 1) ps) (drop (j + 1) qs) m n v s u b'.2)));
     }
 
 pub collects_all : (ps qs : List (ℤ × ℤ)) (i j : ℕ) (done : List (ℤ × ℤ)) (v : ℤ) → length ps ≤ i → Collects ps qs i j done → Lies done v ↔ (Lies ps v × Lies qs v)
@@ -175,7 +182,7 @@ collects_all ps qs i j done v h c = (λ k. (c.lies v).1 (inl k), λ k. left ((c.
 -- ---- what the code computes, by the words
 
 pub word_max : (ps qs : List (ℤ × ℤ)) (i j : ℕ) (d : ℤ × ℤ) (m : ℤ) → IsDomain ps → IsDomain qs → i < length ps → j < length qs
-  → m ≡ int_max (to_z w64 (of_z w64 (get_or ps i d).0)) (to_z w64 (of_z w64 (get_or qs j d).0)) → to_z w64 (of_z w64 m) ≡ int_max (get_or ps i d).0 (get_or qs j d).0
+    → m ≡ int_max (to_z w64 (of_z w64 (get_or ps i d).0)) (to_z w64 (of_z w64 (get_or qs j d).0)) → to_z w64 (of_z w64 m) ≡ int_max (get_or ps i d).0 (get_or qs j d).0
 word_max ps qs i j d m a b h k e =
     let v = within ps lower_limit upper_limit i d a.apart h in
     let w = within qs lower_limit upper_limit j d b.apart k in
@@ -183,7 +190,7 @@ word_max ps qs i j d m a b h k e =
     word_is m (omega (arith, ints, clamps, f, v.above, w.above)) (omega (arith, ints, clamps, f, v.below, w.below, v.upward, w.upward)) ∙ f
 
 pub word_min : (ps qs : List (ℤ × ℤ)) (i j : ℕ) (d : ℤ × ℤ) (n : ℤ) → IsDomain ps → IsDomain qs → i < length ps → j < length qs
-  → n ≡ int_min (to_z w64 (of_z w64 (get_or ps i d).1)) (to_z w64 (of_z w64 (get_or qs j d).1)) → to_z w64 (of_z w64 n) ≡ int_min (get_or ps i d).1 (get_or qs j d).1
+    → n ≡ int_min (to_z w64 (of_z w64 (get_or ps i d).1)) (to_z w64 (of_z w64 (get_or qs j d).1)) → to_z w64 (of_z w64 n) ≡ int_min (get_or ps i d).1 (get_or qs j d).1
 word_min ps qs i j d n a b h k e =
     let v = within ps lower_limit upper_limit i d a.apart h in
     let w = within qs lower_limit upper_limit j d b.apart k in

@@ -1,8 +1,8 @@
 -- Which integers a list of intervals and its set hold.
-use Rattle.std.proofs.Common.{◌≡◌, ℕ, ℤ, zero, suc, pos, negsuc, ◌+◌, ◌+ℤ◌, ◌-ℤ◌, ◌≤ℤ◌, ◌<ℤ◌, ◌<◌, ◌≤◌, ◌⊎◌, inl, inr, true, false, Bool, List, [], ◌∷◌, ◌++◌, refl, ap, sym, ◌∙◌, subst, arith, length}
+use Rattle.std.proofs.Common.{◌≡◌, ℕ, ℤ, zero, suc, pos, negsuc, ◌+ℤ◌, ◌-ℤ◌, ◌≤ℤ◌, ◌<ℤ◌, ◌⊎◌, inl, inr, true, false, Bool, List, [], ◌∷◌, ◌++◌, refl, ap, ◌∙◌, arith}
 use Rattle.std.specs.Prelude.{◌||◌}
 use Rattle.std.specs.List.{list_any}
-use Rattle.std.specs.Ordering.{int_cmp, int_eq}
+use Rattle.std.specs.Ordering.{int_eq}
 use Rattle.std.specs.Bool.{Decides}
 use Rattle.std.proofs.lemmas.Bool.Decides.{Decides-int_eq, Decides-or, Decides-like, Decides-at}
 use Rattle.std.specs.FinSet as set
@@ -70,8 +70,8 @@ one_of-integers [] v low high a = (λ h. absurd (cc), λ h. absurd h)
 one_of-integers (p ∷ ps) v low high a =
     Decides-at _ _ (one_of-append v (run p.0 (count p.0 p.1)) (integers ps))
     (Decides-or (one_of v (run p.0 (count p.0 p.1))) (one_of v (integers ps))
-      (Decides-like _ (in_first p v a.1) (first_in p v a.1) (one_of-run v p.0 (count p.0 p.1)))
-      (one_of-integers ps v (p.1 +ℤ pos 1) high a.2))
+    (Decides-like _ (in_first p v a.1) (first_in p v a.1) (one_of-run v p.0 (count p.0 p.1)))
+    (one_of-integers ps v (p.1 +ℤ pos 1) high a.2))
 
 pub contains_apart : (ps : List (ℤ × ℤ)) (v low high : ℤ) → IsApart low ps high → Decides (set.contains (set_of ps) v) (Lies ps v)
 unfolding set_of

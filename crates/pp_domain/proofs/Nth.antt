@@ -1,9 +1,9 @@
 -- The member at a place of an ascending list is the one with so many smaller members.
-use Rattle.std.proofs.Common.{◌≡◌, ℕ, ℤ, zero, suc, pos, ◌+◌, ◌-◌, ◌+ℤ◌, ◌-ℤ◌, ◌≤ℤ◌, ◌<ℤ◌, ◌<◌, ◌≤◌, ◌⊎◌, inl, inr, true, false, Bool, List, [], ◌∷◌, refl, ap, sym, ◌∙◌, subst, arith, length, take, Option, Some, None}
+use Rattle.std.proofs.Common.{◌≡◌, ℕ, ℤ, zero, suc, pos, ◌-ℤ◌, ◌<ℤ◌, ◌≤◌, ◌⊎◌, inl, inr, true, false, Bool, List, [], ◌∷◌, refl, ap, sym, ◌∙◌, subst, arith, length, take, Option, Some, None}
 use Rattle.std.specs.Prelude.{slice_get, int_lt, ◌||◌, ◌&&◌, IfSome, IsNone, ◌↔◌}
 use Rattle.std.specs.FinSet as set
 use Rattle.std.specs.Cmp.{int_cmp_total}
-use Rattle.std.specs.Ordering.{int_cmp, int_eq}
+use Rattle.std.specs.Ordering.{int_eq}
 use Rattle.std.specs.Bool.{Decides}
 use Rattle.std.proofs.lemmas.Int.{ints}
 use Rattle.std.proofs.lemmas.Bool.Decides.{same_from_decides, Decides-like, Decides-at, Decides-and, Decides-or, Decides-int_eq}
@@ -77,15 +77,16 @@ unfolding smaller
 smaller_is low xs k v a e = set.same_set int_cmp_total set.int_cmp-IsAntisymmetric _ _ (λ q.
     same_from_decides _ _
     (Decides-at _ _ (set.contains-retain (set.from_list xs) (λ n. int_lt n v) q (λ x t. ap (λ n. int_lt n v) (sym (set.int_cmp-IsAntisymmetric q x t))) ∙ ap (λ b. b && int_lt q v) (set.contains-from_list int_cmp_total xs q))
-      (Decides-and (one_of q xs) (int_lt q v) (λ h. h, λ h. h) (Decides-int_lt q v)))
+    (Decides-and (one_of q xs) (int_lt q v) (λ h. h, λ h. h) (Decides-int_lt q v)))
     (Decides-at _ _ (set.contains-from_list int_cmp_total (take k xs) q) (before_it low xs k v q a e)))
 
 is_nth : (ps : List (ℤ × ℤ)) (k : ℕ) (v : ℤ) → IsDomain ps → slice_get (integers ps) k ≡ Some v → IsNth (set_of ps) k v
 unfolding set_of smaller
 is_nth ps k v d e =
-    let a = integers-ascending ps _ _ d.apart in
-    (set.contains-from_list int_cmp_total (integers ps) v ∙ get_one_of (integers ps) k v e,
-     ap set.len (smaller_is _ (integers ps) k v a e) ∙ len_ascending _ (take k (integers ps)) (take-ascending _ (integers ps) k a) ∙ length_before (integers ps) k v e)
+    let a = integers-ascending ps _ _ d.apart in (
+      set.contains-from_list int_cmp_total (integers ps) v ∙ get_one_of (integers ps) k v e,
+      ap set.len (smaller_is _ (integers ps) k v a e) ∙ len_ascending _ (take k (integers ps)) (take-ascending _ (integers ps) k a) ∙ length_before (integers ps) k v e,
+    )
 
 pub nth_member : (ps : List (ℤ × ℤ)) (k : ℕ) (r : Option ℤ) → IsDomain ps → r ≡ slice_get (integers ps) k → IfSome r (IsNth (set_of ps) k)
 nth_member ps k None d e = tt

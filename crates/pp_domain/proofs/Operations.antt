@@ -1,9 +1,8 @@
 -- From the integers of intervals to the sets that the operations speak of.
-use Rattle.std.proofs.Common.{◌≡◌, ℤ, ◌⊎◌, inl, inr, true, Bool, List, [], ◌∷◌, refl, ap, sym, ◌∙◌, subst, Option, Some, None}
-use Rattle.std.specs.Prelude.{◌↔◌, ◌≢◌, MatchOption, not, ◌||◌, ◌&&◌}
+use Rattle.std.proofs.Common.{◌≡◌, ℤ, ◌⊎◌, List, [], sym, subst, Option, Some, None}
+use Rattle.std.specs.Prelude.{◌↔◌, ◌≢◌, MatchOption}
 use Rattle.std.specs.FinSet as set
 use Rattle.std.specs.Cmp.{int_cmp_total}
-use Rattle.std.specs.Ordering.{int_cmp, int_eq}
 use Rattle.std.specs.Bool.{Decides}
 use Rattle.std.proofs.lemmas.Bool.Decides.{Decides-like, Decides-at, Decides-and, Decides-or, Decides-not, Decides-int_eq}
 use Rattle.pp_domain.specs.Intervals.{Lies, IsDomain}
@@ -37,19 +36,19 @@ others_hold ps rs w d h v =
 -- ---- as the methods have them: `cs` and `ds` are the slices of the domains ps and qs
 
 pub meet_is : (cs ds ps qs rs : List (ℤ × ℤ)) (r : Option (List (ℤ × ℤ))) → cs ≡ ps → ds ≡ qs → IsDomain cs → IsDomain ds → ((v : ℤ) → Lies rs v ↔ (Lies cs v × Lies ds v))
-  → MatchOption r (rs ≡ []) (λ d. IsDomain d × (d ≡ rs)) → IsDomainOrNone r (set.intersection (set_of ps) (set_of qs))
+    → MatchOption r (rs ≡ []) (λ d. IsDomain d × (d ≡ rs)) → IsDomainOrNone r (set.intersection (set_of ps) (set_of qs))
 meet_is cs ds ps qs rs r e f a b h m =
     subst (λ (xs : List (ℤ × ℤ)). IsDomainOrNone r (set.intersection (set_of xs) (set_of qs))) e
     (subst (λ (ys : List (ℤ × ℤ)). IsDomainOrNone r (set.intersection (set_of cs) (set_of ys))) f (domain_or_none _ rs r (both_hold cs ds rs a b h) m))
 
 pub without_is : (cs ps rs : List (ℤ × ℤ)) (v w : ℤ) (r : Option (List (ℤ × ℤ))) → cs ≡ ps → v ≡ w → IsDomain cs → ((u : ℤ) → Lies rs u ↔ (Lies cs u × (u ≢ v)))
-  → MatchOption r (rs ≡ []) (λ d. IsDomain d × (d ≡ rs)) → IsDomainOrNone r (set.remove (set_of ps) w)
+    → MatchOption r (rs ≡ []) (λ d. IsDomain d × (d ≡ rs)) → IsDomainOrNone r (set.remove (set_of ps) w)
 without_is cs ps rs v w r e f a h m =
     subst (λ (xs : List (ℤ × ℤ)). IsDomainOrNone r (set.remove (set_of xs) w)) e
     (subst (λ (z : ℤ). IsDomainOrNone r (set.remove (set_of cs) z)) f (domain_or_none _ rs r (others_hold cs rs v a h) m))
 
 pub union_is : (cs ds ps qs rs : List (ℤ × ℤ)) → cs ≡ ps → ds ≡ qs → IsDomain cs → IsDomain ds → IsDomain rs → ((v : ℤ) → Lies rs v ↔ (Lies cs v ⊎ Lies ds v))
-  → IsDomainOf rs (set.union (set_of ps) (set_of qs))
+    → IsDomainOf rs (set.union (set_of ps) (set_of qs))
 union_is cs ds ps qs rs e f a b d h =
     subst (λ (xs : List (ℤ × ℤ)). IsDomainOf rs (set.union (set_of xs) (set_of qs))) e
     (subst (λ (ys : List (ℤ × ℤ)). IsDomainOf rs (set.union (set_of cs) (set_of ys))) f (d, set_is rs _ d (either_holds cs ds rs a b h)))

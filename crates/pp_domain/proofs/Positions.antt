@@ -1,5 +1,5 @@
 -- Intervals by their places.
-use Rattle.std.proofs.Common.{◌≡◌, ℕ, ℤ, zero, suc, pos, negsuc, ◌+◌, ◌+ℤ◌, ◌-ℤ◌, ◌≤ℤ◌, ◌<ℤ◌, ◌<◌, ◌≤◌, ◌⊎◌, inl, inr, true, false, Bool, List, [], ◌∷◌, ◌++◌, refl, ap, sym, ◌∙◌, subst, arith, length, get_or, to_z, of_z, w64}
+use Rattle.std.proofs.Common.{◌≡◌, ℕ, ℤ, zero, suc, pos, ◌+◌, ◌+ℤ◌, ◌≤ℤ◌, ◌<ℤ◌, ◌<◌, ◌≤◌, inl, inr, List, [], ◌∷◌, ap, sym, ◌∙◌, subst, arith, length, get_or, to_z, of_z, w64}
 use Rattle.std.specs.Prelude.{int_le}
 use Rattle.std.specs.Bool.{Decides}
 use Rattle.std.specs.List.{AllWithin}
@@ -49,7 +49,7 @@ none_reaches (p ∷ ps) v h (inr l) = none_reaches ps v (shift_before p ps (leng
 
 -- v lies in the intervals exactly where it lies in the first that reaches it
 pub first_that_reaches : (ps : List (ℤ × ℤ)) (v low high : ℤ) (n : ℕ) (d : ℤ × ℤ) → IsApart low ps high → n < length ps
-  → AllWithin (λ p. p.1 <ℤ v) ps 0 n → AllWithin (λ p. v ≤ℤ p.1) ps n (length ps) → (Lies ps v → (get_or ps n d).0 ≤ℤ v) × ((get_or ps n d).0 ≤ℤ v → Lies ps v)
+    → AllWithin (λ p. p.1 <ℤ v) ps 0 n → AllWithin (λ p. v ≤ℤ p.1) ps n (length ps) → (Lies ps v → (get_or ps n d).0 ≤ℤ v) × ((get_or ps n d).0 ≤ℤ v → Lies ps v)
 first_that_reaches [] v low high n d a l b f = absurd (omega arith)
 first_that_reaches (p ∷ ps) v low high zero d a l b f = (begins, λ h. inl (h, f 0 p (omega arith) (omega arith)))
   where
@@ -79,7 +79,7 @@ after_less ps v n d a h e k d' l less =
 
 -- what the code's test of the first interval that reaches w tells of v, which w is the word of
 pub place_tells : (ps : List (ℤ × ℤ)) (v w : ℤ) (n : ℕ) (d : ℤ × ℤ) → w ≡ v → IsDomain ps → n < length ps
-  → AllWithin (λ p. p.1 <ℤ w) ps 0 n → AllWithin (λ p. w ≤ℤ p.1) ps n (length ps) → Decides (int_le (to_z w64 (of_z w64 (get_or ps n d).0)) w) (Lies ps v)
+    → AllWithin (λ p. p.1 <ℤ w) ps 0 n → AllWithin (λ p. w ≤ℤ p.1) ps n (length ps) → Decides (int_le (to_z w64 (of_z w64 (get_or ps n d).0)) w) (Lies ps v)
 place_tells ps v w n d e a h before after =
     let r = first_that_reaches ps w _ _ n d a.apart h before after in
     let word = begin_word ps n d a h in
@@ -115,5 +115,5 @@ upward_words ps k d a h =
     omega (arith, ints, w.upward, e, f)
 
 pub count_words : (ps : List (ℤ × ℤ)) (k : ℕ) (d : ℤ × ℤ) → IsDomain ps → k < length ps
-  → count (to_z w64 (of_z w64 (get_or ps k d).0)) (to_z w64 (of_z w64 (get_or ps k d).1)) ≡ count (get_or ps k d).0 (get_or ps k d).1
+    → count (to_z w64 (of_z w64 (get_or ps k d).0)) (to_z w64 (of_z w64 (get_or ps k d).1)) ≡ count (get_or ps k d).0 (get_or ps k d).1
 count_words ps k d a h = ap (λ z. count z (to_z w64 (of_z w64 (get_or ps k d).1))) (begin_word ps k d a h) ∙ ap (count (get_or ps k d).0) (end_word ps k d a h)

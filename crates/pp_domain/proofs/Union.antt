@@ -1,5 +1,5 @@
 -- One step of the walk that merges two lists of intervals.
-use Rattle.std.proofs.Common.{◌≡◌, ℕ, ℤ, zero, suc, pos, ◌+◌, ◌+ℤ◌, ◌-ℤ◌, ◌≤ℤ◌, ◌<ℤ◌, ◌<◌, ◌≤◌, ◌⊎◌, inl, inr, List, [], ◌∷◌, ◌++◌, refl, ap, sym, ◌∙◌, subst, arith, length, drop, get_or, length-append, to_z, of_z, w64}
+use Rattle.std.proofs.Common.{◌≡◌, ℕ, ℤ, pos, ◌+◌, ◌+ℤ◌, ◌-ℤ◌, ◌≤ℤ◌, ◌<ℤ◌, ◌<◌, ◌≤◌, ◌⊎◌, inl, inr, List, [], ◌∷◌, ◌++◌, ap, sym, ◌∙◌, subst, arith, length, drop, get_or, length-append, to_z, of_z, w64}
 use Rattle.std.specs.Prelude.{◌↔◌}
 use Rattle.std.specs.Int.{int_max, int_min}
 use Rattle.std.proofs.lemmas.Int.{ints, clamps, by_lt_z}
@@ -7,11 +7,10 @@ use Rattle.std.proofs.lemmas.List.{drop_more, drop_all}
 use Rattle.std.proofs.lemmas.Bool.{cases_lt}
 use Rattle.pp_domain.specs.Intervals.{Lies, IsApart, IsApartInside, IsDomain, IsInteger, lower_limit, upper_limit}
 use Rattle.pp_domain.specs.Merging.{IsNext}
-use Rattle.pp_domain.proofs.Canonical.{apart_room}
 use Rattle.pp_domain.proofs.Positions.{within, begin_word}
 use Rattle.pp_domain.proofs.Words.{word_is}
 use Rattle.pp_domain.proofs.Inside.{apart_down, apart_at, step}
-use Rattle.pp_domain.proofs.Meet.{lies-append, apart-append, apart_up}
+use Rattle.pp_domain.proofs.Meet.{lies-append, apart-append}
 
 -- the interval p at the end of xs may grow to end at e
 grown : (xs : List (ℤ × ℤ)) (p : ℤ × ℤ) (e low high : ℤ) → IsApart low (xs ++ p ∷ []) high → p.0 ≤ℤ e → e <ℤ high → IsApart low (xs ++ (p.0, e) ∷ []) high
@@ -34,13 +33,13 @@ pub record IsAbsorbed (done : List (ℤ × ℤ)) (last next : ℤ × ℤ) (done'
 
 -- what holds of the lists with their last interval in both cases holds of those that are absorbed
 by_absorbed : {done done' : List (ℤ × ℤ)} {last next last' : ℤ × ℤ} (P : List (ℤ × ℤ) → ℤ × ℤ → Type 0) → IsAbsorbed done last next done' last'
-  → (next.0 ≤ℤ (last.1 +ℤ pos 1) → P done (last.0, int_max last.1 next.1)) → ((last.1 +ℤ pos 1) <ℤ next.0 → P (done ++ last ∷ []) next) → P done' last'
+    → (next.0 ≤ℤ (last.1 +ℤ pos 1) → P done (last.0, int_max last.1 next.1)) → ((last.1 +ℤ pos 1) <ℤ next.0 → P (done ++ last ∷ []) next) → P done' last'
 by_absorbed {done} {done'} {last} {next} {last'} P b touch far = by_lt_z (last.1 +ℤ pos 1) next.0
     (λ less. subst (λ (xs : List (ℤ × ℤ)). P xs last') (sym (b.apart less).1) (subst (λ (p : ℤ × ℤ). P (done ++ last ∷ []) p) (sym (b.apart less).0) (far less)))
     (λ more. subst (λ (xs : List (ℤ × ℤ)). P xs last') (sym (b.touching more).1) (subst (λ (p : ℤ × ℤ). P done p) (sym (b.touching more).0) (touch more)))
 
 absorbed_apart : (done done' : List (ℤ × ℤ)) (last next last' : ℤ × ℤ) → IsAbsorbed done last next done' last' → IsApartInside (done ++ last ∷ []) → next.0 ≤ℤ next.1 → next.1 <ℤ upper_limit
-  → IsApartInside (done' ++ last' ∷ [])
+    → IsApartInside (done' ++ last' ∷ [])
 absorbed_apart done done' last next last' b a up room =
     let w = last_within done last lower_limit upper_limit a in
     by_absorbed (λ xs p. IsApartInside (xs ++ p ∷ [])) b
@@ -67,7 +66,7 @@ abbrev Together : List (ℤ × ℤ) → ℤ × ℤ → ℤ × ℤ → ℤ → Ty
 Together done last next v = Lies (done ++ last ∷ []) v ⊎ ((next.0 ≤ℤ v) × (v ≤ℤ next.1))
 
 grown_lies : (done : List (ℤ × ℤ)) (last next : ℤ × ℤ) (v : ℤ) → last.0 ≤ℤ next.0 → next.0 ≤ℤ (last.1 +ℤ pos 1)
-  → Lies (done ++ (last.0, int_max last.1 next.1) ∷ []) v ↔ Together done last next v
+    → Lies (done ++ (last.0, int_max last.1 next.1) ∷ []) v ↔ Together done last next v
 grown_lies done last next v h touch = (λ k. there ((lies_last done (last.0, int_max last.1 next.1) v).0 k), λ k. (lies_last done (last.0, int_max last.1 next.1) v).1 (back k))
   where
     split : (last.0 ≤ℤ v) × (v ≤ℤ int_max last.1 next.1) → Together done last next v
@@ -88,7 +87,7 @@ grown_lies done last next v h touch = (λ k. there ((lies_last done (last.0, int
     back (inr k) = inr (omega (arith, ints, h, k.0), omega (arith, ints, clamps, k.1))
 
 absorbed_lies : (done done' : List (ℤ × ℤ)) (last next last' : ℤ × ℤ) (v : ℤ) → IsAbsorbed done last next done' last' → last.0 ≤ℤ next.0
-  → Lies (done' ++ last' ∷ []) v ↔ Together done last next v
+    → Lies (done' ++ last' ∷ []) v ↔ Together done last next v
 absorbed_lies done done' last next last' v b h =
     by_absorbed (λ xs p. Lies (xs ++ p ∷ []) v ↔ Together done last next v) b (grown_lies done last next v h) (λ far. lies_last (done ++ last ∷ []) next v)
 
@@ -123,7 +122,7 @@ gathers_turned ps qs i j done last g = record {
 
 -- the rest of the other list begins no earlier than `next`
 other_after : (qs : List (ℤ × ℤ)) (j : ℕ) (d : ℤ × ℤ) (low : ℤ) (next : ℤ × ℤ) → IsDomain qs → next.0 ≤ℤ next.1 → next.1 <ℤ upper_limit
-  → (j < length qs → next.0 ≤ℤ (get_or qs j d).0) → j ≤ length qs → low ≤ℤ next.0 → IsApart (low -ℤ pos 1) (drop j qs) upper_limit
+    → (j < length qs → next.0 ≤ℤ (get_or qs j d).0) → j ≤ length qs → low ≤ℤ next.0 → IsApart (low -ℤ pos 1) (drop j qs) upper_limit
 other_after qs j d low next b up room first bound below = go (cases_lt j (length qs))
   where
     go : (j < length qs) ⊎ (length qs ≤ j) → IsApart (low -ℤ pos 1) (drop j qs) upper_limit
@@ -159,7 +158,7 @@ regroup {A} {B} {C} {D} {E} {F} f g = (there, back)
     back (inr (inr h)) = inr (inr h)
 
 pub gathers_more : (ps qs : List (ℤ × ℤ)) (i j : ℕ) (done done' : List (ℤ × ℤ)) (last last' : ℤ × ℤ) → IsDomain ps → IsDomain qs → IsNext ps i qs j
-  → IsAbsorbed done last (get_or ps i (pos 0, pos 0)) done' last' → Gathers ps qs i j done last → Gathers ps qs (i + 1) j done' last'
+    → IsAbsorbed done last (get_or ps i (pos 0, pos 0)) done' last' → Gathers ps qs i j done last → Gathers ps qs (i + 1) j done' last'
 gathers_more ps qs i j done done' last last' a b n s g =
     let d : ℤ × ℤ = (pos 0, pos 0) in
     let next : ℤ × ℤ = get_or ps i d in
@@ -198,7 +197,7 @@ gathers_first ps qs m a b e =
     in_right u up same = (rest_splits qs 0 (pos 0, pos 0) u b.some).1 (inl (omega (arith, ints, same), omega (arith, ints, same, up)))
 
     first : (u : ℤ) → (get_or ps 0 (pos 0, pos 0)).0 ≤ℤ (get_or ps 0 (pos 0, pos 0)).1 → (get_or qs 0 (pos 0, pos 0)).0 ≤ℤ (get_or qs 0 (pos 0, pos 0)).1
-      → Lies ((m, m) ∷ []) u ⊎ (Lies ps u ⊎ Lies qs u) → Lies ps u ⊎ Lies qs u
+        → Lies ((m, m) ∷ []) u ⊎ (Lies ps u ⊎ Lies qs u) → Lies ps u ⊎ Lies qs u
     first u up up' (inr h) = h
     first u up up' (inl (inr h)) = absurd h
     first u up up' (inl (inl h)) = by_lt_z (get_or ps 0 (pos 0, pos 0)).0 (get_or qs 0 (pos 0, pos 0)).0
@@ -210,7 +209,7 @@ gathered_domain ps qs i j done all last e g =
     subst IsDomain (sym e) (record { some = omega (arith, length-append done (last ∷ [])); apart = g.apart })
 
 pub gathered_lies : (ps qs : List (ℤ × ℤ)) (i j : ℕ) (done all : List (ℤ × ℤ)) (last : ℤ × ℤ) (v : ℤ) → all ≡ done ++ last ∷ [] → length ps ≤ i → length qs ≤ j
-  → Gathers ps qs i j done last → Lies all v ↔ (Lies ps v ⊎ Lies qs v)
+    → Gathers ps qs i j done last → Lies all v ↔ (Lies ps v ⊎ Lies qs v)
 gathered_lies ps qs i j done all last v e h k g =
     subst (λ (xs : List (ℤ × ℤ)). Lies xs v ↔ (Lies ps v ⊎ Lies qs v)) (sym e) (λ l. (g.lies v).1 (inl l), λ l. alone ((g.lies v).0 l))
   where
@@ -226,8 +225,8 @@ last_integer ps qs i j done last g =
 
 -- the first integer of both, as the code computes it by words
 pub word_first : (ps qs : List (ℤ × ℤ)) (m : ℤ) → IsDomain ps → IsDomain qs
-  → m ≡ int_min (to_z w64 (of_z w64 (get_or ps 0 (pos 0, pos 0)).0)) (to_z w64 (of_z w64 (get_or qs 0 (pos 0, pos 0)).0))
-  → to_z w64 (of_z w64 m) ≡ int_min (get_or ps 0 (pos 0, pos 0)).0 (get_or qs 0 (pos 0, pos 0)).0
+    → m ≡ int_min (to_z w64 (of_z w64 (get_or ps 0 (pos 0, pos 0)).0)) (to_z w64 (of_z w64 (get_or qs 0 (pos 0, pos 0)).0))
+    → to_z w64 (of_z w64 m) ≡ int_min (get_or ps 0 (pos 0, pos 0)).0 (get_or qs 0 (pos 0, pos 0)).0
 word_first ps qs m a b e =
     let d : ℤ × ℤ = (pos 0, pos 0) in
     let v = within ps lower_limit upper_limit 0 d a.apart a.some in

@@ -1,12 +1,11 @@
 -- A value that is taken out of the interval in which it lies.
-use Rattle.std.proofs.Common.{◌≡◌, ℕ, ℤ, zero, suc, pos, ◌+◌, ◌+ℤ◌, ◌-ℤ◌, ◌≤ℤ◌, ◌<ℤ◌, ◌<◌, ◌≤◌, ◌⊎◌, inl, inr, List, [], ◌∷◌, ◌++◌, refl, ap, sym, ◌∙◌, subst, arith, length, take, drop, get_or, to_z, of_z, w64, take-append-drop, append_assoc}
+use Rattle.std.proofs.Common.{◌≡◌, ℕ, ℤ, zero, suc, pos, ◌+◌, ◌+ℤ◌, ◌-ℤ◌, ◌≤ℤ◌, ◌<ℤ◌, ◌<◌, ◌⊎◌, inl, inr, List, [], ◌∷◌, ◌++◌, ap, sym, ◌∙◌, subst, arith, length, take, drop, get_or, take-append-drop}
 use Rattle.std.specs.Prelude.{◌↔◌, ◌≢◌}
 use Rattle.std.proofs.lemmas.Int.{ints, by_lt_z}
 use Rattle.std.proofs.lemmas.List.{drop_more}
 use Rattle.pp_domain.specs.Intervals.{Lies, IsApart, IsApartInside, IsDomain, lower_limit, upper_limit}
 use Rattle.pp_domain.proofs.Canonical.{lies_above, lies_below}
-use Rattle.pp_domain.proofs.Positions.{within}
-use Rattle.pp_domain.proofs.Inside.{apart_at, step}
+use Rattle.pp_domain.proofs.Inside.{apart_at}
 use Rattle.pp_domain.proofs.Meet.{IsPushed, lies-append, lies_pushed, apart_pushed, apart_up, apart-append}
 
 apart_take : (ps : List (ℤ × ℤ)) (n : ℕ) (d : ℤ × ℤ) (low high : ℤ) → IsApart low ps high → n < length ps → IsApart low (take n ps) ((get_or ps n d).0 -ℤ pos 1)
@@ -27,7 +26,7 @@ pub record IsSplit (ps : List (ℤ × ℤ)) (n : ℕ) (p : ℤ × ℤ) (w : ℤ)
   pub all : r4 ≡ r3 ++ drop (n + 1) ps
 
 pub split_apart : (ps : List (ℤ × ℤ)) (n : ℕ) (d : ℤ × ℤ) (w : ℤ) (r2 r3 r4 : List (ℤ × ℤ)) → IsDomain ps → n < length ps → (get_or ps n d).0 ≤ℤ w → w ≤ℤ (get_or ps n d).1
-  → IsSplit ps n (get_or ps n d) w r2 r3 r4 → IsApartInside r4
+    → IsSplit ps n (get_or ps n d) w r2 r3 r4 → IsApartInside r4
 split_apart ps n d w r2 r3 r4 a h begins ends s =
     let p : ℤ × ℤ = get_or ps n d in
     let first = apart_take ps n d lower_limit upper_limit a.apart h in
@@ -43,7 +42,7 @@ parted ps n d v h =
     (lies-append (take n ps) (get_or ps n d ∷ drop (n + 1) ps) v)
 
 pub split_lies : (ps : List (ℤ × ℤ)) (n : ℕ) (d : ℤ × ℤ) (w : ℤ) (r2 r3 r4 : List (ℤ × ℤ)) (v : ℤ) → IsDomain ps → n < length ps → (get_or ps n d).0 ≤ℤ w → w ≤ℤ (get_or ps n d).1
-  → IsSplit ps n (get_or ps n d) w r2 r3 r4 → Lies r4 v ↔ (Lies ps v × (v ≢ w))
+    → IsSplit ps n (get_or ps n d) w r2 r3 r4 → Lies r4 v ↔ (Lies ps v × (v ≢ w))
 split_lies ps n d w r2 r3 r4 v a h begins ends s = (λ k. from_rests (rests k), back)
   where
     p : ℤ × ℤ

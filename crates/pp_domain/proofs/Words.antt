@@ -1,5 +1,5 @@
 -- Integers of the language fit a signed word of 64 bits.
-use Rattle.std.proofs.Common.{◌≡◌, ℕ, ℤ, zero, suc, pos, negsuc, ◌+ℤ◌, ◌-ℤ◌, ◌≤ℤ◌, ◌<ℤ◌, ◌<◌, ◌≤◌, ◌^◌, true, false, Bool, refl, ap, sym, ◌∙◌, arith, to_z, of_z, w64}
+use Rattle.std.proofs.Common.{◌≡◌, ℤ, pos, negsuc, ◌≤ℤ◌, ◌<ℤ◌, false, arith, to_z, of_z, w64}
 use Rattle.std.specs.Prelude.{int_lt, int_le}
 use Rattle.std.specs.Bool.{Decides}
 use Rattle.std.proofs.lemmas.Int.{ints, to_z-of_z}

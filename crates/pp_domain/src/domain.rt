@@ -10,7 +10,6 @@ use crate::inclusion::all_lie;
 use crate::joining::joined;
 use crate::places::{lies_in, without_value};
 use crate::sharing::shared;
-
 use std::alloc::{AllocError, Global};
 use std::marker::Model;
 
@@ -48,9 +47,7 @@ impl Domain {
         }
         let mut intervals = Vec::with_capacity(alloc, 1)?;
         intervals.push((lo, hi))?;
-        Ok(Some(Domain {
-            intervals,
-        }))
+        Ok(Some(Domain { intervals }))
     }
 
     /// The intervals, ascending.
@@ -144,9 +141,7 @@ impl Domain {
         if intervals.is_empty() {
             None
         } else {
-            Some(Domain {
-                intervals,
-            })
+            Some(Domain { intervals })
         }
     }
 }

@@ -7,7 +7,11 @@ ghost use Rattle.pp_domain.specs.Merging.{IsNext};
 use std::alloc::{AllocError, Global};
 
 // Takes the intervals of both by where they begin, and holds the last one back as long as it may grow.
-pub fn joined(alloc: Global, a: &[(i64, i64)], b: &[(i64, i64)]) -> Result<Vec<(i64, i64)>, AllocError>
+pub fn joined(
+    alloc: Global,
+    a: &[(i64, i64)],
+    b: &[(i64, i64)],
+) -> Result<Vec<(i64, i64)>, AllocError>
     requires a { IsDomain a.now }
     requires b { IsDomain b.now }
     ensures domain { IfOk result (λ either. IsDomain either.items) }
@@ -43,7 +47,11 @@ fn is_next(a: &[(i64, i64)], i: usize, b: &[(i64, i64)], j: usize) -> bool
 }
 
 // The last interval after `next`: `last` grown by it where they touch, else `next`, and `last` is done.
-fn absorb(done: &mut Vec<(i64, i64)>, last: (i64, i64), next: (i64, i64)) -> Result<(i64, i64), AllocError>
+fn absorb(
+    done: &mut Vec<(i64, i64)>,
+    last: (i64, i64),
+    next: (i64, i64),
+) -> Result<(i64, i64), AllocError>
     requires { IsInteger last.1 }
     ensures touching { next.0 ≤ℤ (last.1 +ℤ pos 1) → IfOk result (λ p. (p ≡ (last.0, int_max last.1 next.1)) × (done.new.items ≡ done.old.items)) }
     ensures apart { (last.1 +ℤ pos 1) <ℤ next.0 → IfOk result (λ p. (p ≡ next) × (done.new.items ≡ done.old.items ++ last ∷ [])) }

@@ -8,7 +8,6 @@ mod joining;
 pub mod laws;
 mod places;
 mod sharing;
-
 #[cfg(test)]
 mod tests;
 

@@ -46,7 +46,11 @@ pub fn push_interval(intervals: &mut Vec<(i64, i64)>, low: i64, high: i64) -> Re
 }
 
 // The intervals of all integers but `value`.
-pub fn without_value(alloc: Global, intervals: &[(i64, i64)], value: i64) -> Result<Vec<(i64, i64)>, AllocError>
+pub fn without_value(
+    alloc: Global,
+    intervals: &[(i64, i64)],
+    value: i64,
+) -> Result<Vec<(i64, i64)>, AllocError>
     requires { IsDomain intervals.now }
     ensures apart { IfOk result (λ rest. IsApartInside rest.items) }
     ensures others { IfOk result (λ rest. (v : ℤ) → Lies rest.items v ↔ (Lies intervals.now v × (v ≢ value))) }
@@ -60,7 +64,12 @@ pub fn without_value(alloc: Global, intervals: &[(i64, i64)], value: i64) -> Res
 }
 
 // The intervals without `value`, which lies in the one at `place`.
-fn split_at(alloc: Global, intervals: &[(i64, i64)], place: usize, value: i64) -> Result<Vec<(i64, i64)>, AllocError>
+fn split_at(
+    alloc: Global,
+    intervals: &[(i64, i64)],
+    place: usize,
+    value: i64,
+) -> Result<Vec<(i64, i64)>, AllocError>
     requires domain { IsDomain intervals.now }
     requires place { place < length intervals.now }
     requires begins { (slice_index_or intervals.now place (pos 0, pos 0)).0 ≤ℤ value }

@@ -3,11 +3,14 @@ ghost use Rattle.std.specs.Prelude.{◌↔◌, ℤ, IfOk};
 ghost use Rattle.pp_domain.specs.Intervals.{IsDomain, IsApartInside, Lies};
 
 use crate::places::push_interval;
-
 use std::alloc::{AllocError, Global};
 
 // Goes on in the list whose interval ends first: what is left of the other may still reach its next.
-pub fn shared(alloc: Global, a: &[(i64, i64)], b: &[(i64, i64)]) -> Result<Vec<(i64, i64)>, AllocError>
+pub fn shared(
+    alloc: Global,
+    a: &[(i64, i64)],
+    b: &[(i64, i64)],
+) -> Result<Vec<(i64, i64)>, AllocError>
     requires a { IsDomain a.now }
     requires b { IsDomain b.now }
     ensures apart { IfOk result (λ both. IsApartInside both.items) }

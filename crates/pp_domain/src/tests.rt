@@ -1,11 +1,11 @@
 ghost use Rattle.pp_domain.specs.Intervals.{IsInteger};
 
 use super::*;
-
 use std::alloc::Global;
 use std::test::Fail;
 
 const LOWEST: i64 = -1_000_000_000_000;
+
 const HIGHEST: i64 = 1_000_000_000_000;
 
 fn domain(alloc: Global, lo: i64, hi: i64) -> Result<Domain, Fail>
@@ -26,7 +26,9 @@ fn a_range_is_one_interval(rt: HostRuntime) -> Result<(), Fail> {
 #[test]
 fn a_meeting_keeps_what_both_hold(rt: HostRuntime) -> Result<(), Fail> {
     let one_to_three = domain(rt.alloc(), 1, 3)?;
-    let three = one_to_three.meet(&domain(rt.alloc(), 3, 9)?)?.ok_or("none")?;
+    let three = one_to_three
+        .meet(&domain(rt.alloc(), 3, 9)?)?
+        .ok_or("none")?;
     assert_eq!(rt; three.intervals(), [(3, 3)].as_slice());
     assert!(rt; one_to_three.meet(&domain(rt.alloc(), 4, 9)?)?.is_none());
     Ok(())
@@ -66,7 +68,10 @@ fn all_integers_are_one_interval(rt: HostRuntime) -> Result<(), Fail> {
     assert_eq!(rt; all.size(), 2_000_000_000_001);
     assert_eq!(rt; all.nth(2_000_000_000_000), Some(HIGHEST));
     assert_eq!(rt; all.nth(2_000_000_000_001), None);
-    assert_eq!(rt; all.without(0)?.ok_or("none")?.intervals(), [(LOWEST, -1), (1, HIGHEST)].as_slice());
+    assert_eq!(rt;
+        all.without(0)?.ok_or("none")?.intervals(),
+        [(LOWEST, -1), (1, HIGHEST)].as_slice()
+    );
     Ok(())
 }
 

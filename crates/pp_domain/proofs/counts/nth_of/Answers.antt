@@ -1,4 +1,4 @@
-use Rattle.std.proofs.Common.{◌≡◌, ◌+◌, ◌+ℤ◌, pos, arith, sym, ◌∙◌, ap, length, drop, get_or, Some, to_z, of_z, w64, ◌<◌, ◌≤◌, ◌-◌}
+use Rattle.std.proofs.Common.{◌+◌, pos, arith, sym, ◌∙◌, ap, drop, get_or, Some, ◌<◌, ◌≤◌, ◌-◌}
 use Rattle.std.specs.Prelude.{slice_get}
 use Rattle.std.proofs.lemmas.Int.{ints}
 use Rattle.pp_domain.specs.Intervals.{integers, count}

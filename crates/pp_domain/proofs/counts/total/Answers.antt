@@ -1,6 +1,4 @@
-use Rattle.std.proofs.Common.{◌≡◌, ◌+◌, pos, arith, sym, ◌∙◌, ap, length, drop}
-use Rattle.std.proofs.lemmas.Int.{ints}
-use Rattle.pp_domain.specs.Intervals.{integers}
+use Rattle.std.proofs.Common.{pos, arith, ap, length}
 use Rattle.pp_domain.proofs.Positions.{begin_integer, end_integer, upward_words, count_words}
 use Rattle.pp_domain.proofs.Ascending.{length_at, integers_few, integers_past}
 use Rattle.pp_domain.proofs.counts.total.Goals as goal

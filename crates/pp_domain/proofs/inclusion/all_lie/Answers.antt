@@ -1,4 +1,4 @@
-use Rattle.std.proofs.Common.{◌≡◌, ◌+◌, ◌<◌, ◌≤◌, ◌<ℤ◌, ◌≤ℤ◌, pos, rules, arith, length, drop, get_or, true, false}
+use Rattle.std.proofs.Common.{◌<◌, pos, rules, arith, length}
 use Rattle.std.proofs.lemmas.Int.{ints}
 use Rattle.pp_domain.proofs.Positions.{begin_word, end_word}
 use Rattle.pp_domain.proofs.Inside.{pass_other, pass_this, begins_before, nothing_left, all_passed, step, refused}

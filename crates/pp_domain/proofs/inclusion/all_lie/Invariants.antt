@@ -7,7 +7,7 @@ abbrev pub invariant-loop-i : goal.invariant-loop-i
 invariant-loop-i l = record {
   i_bound : l.i ≤ length l.a;
   j_bound : l.j ≤ length l.b;
-  same : AllLie l.a l.b ↔ AllLie (drop l.i l.a) (drop l.j l.b)
+  same : AllLie l.a l.b ↔ AllLie (drop l.i l.a) (drop l.j l.b);
 }
 
 abbrev pub decreases-loop-i : goal.decreases-loop-i

@@ -1,4 +1,3 @@
-use Rattle.std.proofs.Common.{pos, get_or}
 use Rattle.pp_domain.proofs.Union.{gathers_first, gathers_more, gathers_turned, gathered_lies, last_integer, word_first}
 use Rattle.pp_domain.proofs.joining.joined.Goals as goal
 

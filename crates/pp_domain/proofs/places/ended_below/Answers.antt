@@ -1,4 +1,4 @@
-use Rattle.std.proofs.Common.{ℕ, ℤ, ◌+◌, ◌-◌, ◌/◌, ◌<◌, ◌≤◌, ◌<ℤ◌, ◌≤ℤ◌, pos, refl, arith, length, get_or, to_z, of_z, w64}
+use Rattle.std.proofs.Common.{◌+◌, ◌-◌, ◌/◌, ◌<◌, ◌<ℤ◌, ◌≤ℤ◌, pos, refl, arith, length, get_or, to_z, of_z, w64}
 use Rattle.std.proofs.lemmas.Int.{ints}
 use Rattle.pp_domain.proofs.Positions.{before_more, after_less, end_word}
 use Rattle.pp_domain.proofs.places.ended_below.Goals as goal

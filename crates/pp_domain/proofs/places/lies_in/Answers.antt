@@ -1,4 +1,4 @@
-use Rattle.std.proofs.Common.{◌≡◌, pos, true, false, sym, ◌∙◌, arith}
+use Rattle.std.proofs.Common.{pos, arith}
 use Rattle.std.proofs.lemmas.Int.{to_z-of_z}
 use Rattle.std.proofs.lemmas.Bool.Decides.{Decides-ltb}
 use Rattle.pp_domain.proofs.Positions.{place_tells, past_all}

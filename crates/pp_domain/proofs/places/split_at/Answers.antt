@@ -1,8 +1,7 @@
-use Rattle.std.proofs.Common.{◌≡◌, ℤ, List, ◌+◌, ◌++◌, ◌+ℤ◌, ◌-ℤ◌, ◌≤ℤ◌, refl, ◌∙◌, ap, arith, pos, take, drop, get_or, to_z, of_z, w64}
-use Rattle.std.proofs.lemmas.Int.{ints, to_z-of_z}
+use Rattle.std.proofs.Common.{◌≡◌, ℤ, List, ◌+◌, ◌++◌, refl, ◌∙◌, ap, arith, pos, take, get_or}
+use Rattle.std.proofs.lemmas.Int.{ints}
 use Rattle.std.proofs.lemmas.List.{take_rest}
 use Rattle.pp_domain.proofs.Positions.{within, begin_word, end_word}
-use Rattle.pp_domain.proofs.Meet.{IsPushed}
 use Rattle.pp_domain.proofs.Without.{IsSplit, split_apart, split_lies, pushed_as}
 use Rattle.pp_domain.proofs.places.split_at.Goals as goal
 

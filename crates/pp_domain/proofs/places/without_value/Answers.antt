@@ -1,4 +1,4 @@
-use Rattle.std.proofs.Common.{◌≡◌, ℤ, pos, List}
+use Rattle.std.proofs.Common.{◌≡◌, ℤ, pos}
 use Rattle.std.specs.Prelude.{◌↔◌, ◌≢◌}
 use Rattle.std.proofs.lemmas.Int.{to_z-of_z}
 use Rattle.std.proofs.lemmas.Result.{IfOk-weaker}
@@ -11,9 +11,9 @@ use Rattle.pp_domain.proofs.places.without_value.Goals.{else-place-intervals-via
 never : (c : goal.After-from_slice) → Lies c.args.intervals.now c.args.value → ⊥
 never c l = elim c.else-place-intervals.branch [
   | else-place-intervals-via-then-place-intervals+else-intervals-place w ↦
-    (let h = (place_tells c.args.intervals.now c.args.value _ _ (pos 0, pos 0) (to_z-of_z _ _ c.ranges.value) c.requires w.if-place-intervals.true c.ended_below-place.ensures.before c.ended_below-place.ensures.after).1 l in
-    let k = w.if-intervals-place.false in
-    absurd (cc))
+      (let h = (place_tells c.args.intervals.now c.args.value _ _ (pos 0, pos 0) (to_z-of_z _ _ c.ranges.value) c.requires w.if-place-intervals.true c.ended_below-place.ensures.before c.ended_below-place.ensures.after).1 l in
+      let k = w.if-intervals-place.false in
+      absurd (cc))
   | else-place-intervals-via-else-place-intervals w ↦ past_all _ _ _ _ (to_z-of_z _ _ c.ranges.value) w.if-place-intervals.false c.ended_below-place.ensures.bound c.ended_below-place.ensures.before l
 ]
 

@@ -1,4 +1,4 @@
-use Rattle.std.proofs.Common.{◌≤ℤ◌, ◌<ℤ◌, arith, pos, get_or, to_z, of_z, w64}
+use Rattle.std.proofs.Common.{◌≤ℤ◌, arith, pos, get_or, to_z, of_z, w64}
 use Rattle.std.proofs.lemmas.Int.{ints}
 use Rattle.pp_domain.proofs.Words.{Decides-int_lt, not_less}
 use Rattle.pp_domain.proofs.Positions.{end_word}
@@ -19,9 +19,9 @@ loop-i-preserved-then-a_high-b_high c =
     let less = (Decides-int_lt (to_z w64 (of_z w64 (get_or ps c.loop-i.i (pos 0, pos 0)).1)) (to_z w64 (of_z w64 (get_or qs c.loop-i.j (pos 0, pos 0)).1))).0 c.if-a_high-b_high.true in
     let first : (get_or ps c.loop-i.i (pos 0, pos 0)).1 ≤ℤ (get_or qs c.loop-i.j (pos 0, pos 0)).1 = omega (arith, ints, less, ends, ends') in
     collects_more ps qs c.loop-i.i c.loop-i.j (pos 0, pos 0) c.loop-i.both.items _ _ _ c.requires.a c.requires.b c.loop-i-test.true c.if-j-b.true
-      (shared_left _ _ _ _ e f first)
-      (record { some = c.in_ok-push_interval.ensures.some; none = c.in_ok-push_interval.ensures.none })
-      c.loop-i.invariant
+    (shared_left _ _ _ _ e f first)
+    (record { some = c.in_ok-push_interval.ensures.some; none = c.in_ok-push_interval.ensures.none })
+    c.loop-i.invariant
 
 pub loop-i-preserved : goal.loop-i-preserved
 loop-i-preserved c =
@@ -34,9 +34,9 @@ loop-i-preserved c =
     let more = not_less (to_z w64 (of_z w64 (get_or ps c.loop-i.i (pos 0, pos 0)).1)) (to_z w64 (of_z w64 (get_or qs c.loop-i.j (pos 0, pos 0)).1)) c.if-a_high-b_high.false in
     let first : (get_or qs c.loop-i.j (pos 0, pos 0)).1 ≤ℤ (get_or ps c.loop-i.i (pos 0, pos 0)).1 = omega (arith, ints, more, ends, ends') in
     collects_turned _ _ _ _ _ (collects_more qs ps c.loop-i.j c.loop-i.i (pos 0, pos 0) c.loop-i.both.items _ _ _ c.requires.b c.requires.a c.if-j-b.true c.loop-i-test.true
-      (shared_right _ _ _ _ e f first)
-      (record { some = c.in_ok-push_interval.ensures.some; none = c.in_ok-push_interval.ensures.none })
-      (collects_turned _ _ _ _ _ c.loop-i.invariant))
+    (shared_right _ _ _ _ e f first)
+    (record { some = c.in_ok-push_interval.ensures.some; none = c.in_ok-push_interval.ensures.none })
+    (collects_turned _ _ _ _ _ c.loop-i.invariant))
 
 pub returns-clause-apart : goal.returns-clause-apart
 returns-clause-apart c = ended _ _ _ c.loop-i.invariant.apart

@@ -1,4 +1,3 @@
-use Rattle.std.proofs.Common.{◌≡◌, ◌∙◌, subst}
 use Rattle.pp_domain.proofs.Canonical.{tells_inclusion}
 use Rattle.pp_domain.proofs.domain.Domain.inside.Goals as goal
 

@@ -1,4 +1,4 @@
-use Rattle.std.proofs.Common.{◌≡◌, ap, ◌∙◌, subst}
+use Rattle.std.proofs.Common.{ap, ◌∙◌, subst}
 use Rattle.std.specs.Prelude.{slice_get}
 use Rattle.pp_domain.specs.Intervals.{integers, IsDomain}
 use Rattle.pp_domain.proofs.Nth.{nth_member, nth_none}

@@ -1,4 +1,4 @@
-use Rattle.std.proofs.Common.{◌≡◌, ap, ◌∙◌, sym, subst, length}
+use Rattle.std.proofs.Common.{ap, ◌∙◌, sym, subst, length}
 use Rattle.pp_domain.specs.Intervals.{integers, IsDomain}
 use Rattle.pp_domain.proofs.Ascending.{len_is}
 use Rattle.pp_domain.proofs.domain.Domain.size.Goals as goal
