@@ -31,9 +31,9 @@ no_front b r f k (suc m) t = both_ways _ (f m (omega (arith, t.within))) (spells
 
 variable_at : (b : ℕ) (r : Text) → begins_variable b ≡ true → IsFront (b ∷ r) Variable (suc (prefix_len is_word r))
 variable_at b r h = front_from b (prefix_len is_word r) r Variable
-  (and_from (begins_variable b) (list_all is_word (take (prefix_len is_word r) r)) h (all_in_run is_word r))
-  (run-le is_word r)
-  (λ m low high. form_of_variable b (take m r) h ∙ not_all_beyond is_word r m low high)
+    (and_from (begins_variable b) (list_all is_word (take (prefix_len is_word r) r)) h (all_in_run is_word r))
+    (run-le is_word r)
+    (λ m low high. form_of_variable b (take m r) h ∙ not_all_beyond is_word r m low high)
 
 pub variable_front : (text : Text) → 0 < length text → begins_variable (get_or text 0 0) ≡ true → IsFront text Variable (prefix_len is_word text)
 variable_front [] l h = absurd (omega arith)
@@ -41,7 +41,7 @@ variable_front (b ∷ r) l h = subst (IsFront (b ∷ r) Variable) (sym (prefix_l
 
 lower_at : (k : Kind) (b : ℕ) (r : Text) → is_lower b ≡ true → spells k (b ∷ take (prefix_len is_word r) r) ≡ true → IsFront (b ∷ r) k (suc (prefix_len is_word r))
 lower_at k b r h spelled = front_from b (prefix_len is_word r) r k spelled (run-le is_word r)
-  (λ m low high. form_of_lower b (take m r) h ∙ not_all_beyond is_word r m low high)
+    (λ m low high. form_of_lower b (take m r) h ∙ not_all_beyond is_word r m low high)
 
 pub infers_front : (text : Text) → 0 < length text → is_lower (get_or text 0 0) ≡ true → same_text (take (prefix_len is_word text) text) (codes "infers") ≡ true → IsFront text Infers (prefix_len is_word text)
 infers_front [] l h e = absurd (omega arith)
@@ -54,7 +54,7 @@ atom_front [] l h e = absurd (omega arith)
 atom_front (b ∷ r) l h e =
     let n = prefix_len-yes is_word b r (lower_is_word b h) in
     subst (IsFront (b ∷ r) Atom) (sym n) (lower_at Atom b r h
-      (and_from _ _ (and_from (is_lower b) _ h (all_in_run is_word r)) (not_from_false _ (subst (λ k. same_text (take k (b ∷ r)) (codes "infers") ≡ false) n e))))
+    (and_from _ _ (and_from (is_lower b) _ h (all_in_run is_word r)) (not_from_false _ (subst (λ k. same_text (take k (b ∷ r)) (codes "infers") ≡ false) n e))))
 
 pub quoted_front : (text : Text) (n : ℕ) → 0 < length text → get_or text 0 0 ≡ 39 → IsLongestRest (drop 1 text) n → IsFront text Quoted (1 + n)
 quoted_front [] n l h f = absurd (omega arith)

@@ -42,9 +42,9 @@ module _ {text : Text} {g h : Gap} {n i : ℕ} (r : ReadTo text g n i) (d : ℕ)
     leads = leads_on;
     is_gap = r.is_gap;
     longest = λ m low high gap. ⊎_elim
-      (λ (below : m < i + 1). r.longest m low (omega arith) gap)
-      (λ (above : i + 1 ≤ m). let same : m ≡ i + 1 = omega arith in c (sym leads_on ∙ subst (λ k. IsGap (take k text)) same gap))
-      (cases_lt m (i + 1));
+        (λ (below : m < i + 1). r.longest m low (omega arith) gap)
+        (λ (above : i + 1 ≤ m). let same : m ≡ i + 1 = omega arith in c (sym leads_on ∙ subst (λ k. IsGap (take k text)) same gap))
+        (cases_lt m (i + 1));
   }
 
   broken_beyond : h ≡ broken → (m : ℕ) → i + 1 ≤ m → gap_from clear (take m text) ≡ broken
@@ -58,9 +58,9 @@ module _ {text : Text} {g h : Gap} {n i : ℕ} (r : ReadTo text g n i) (d : ℕ)
   -- behind a broken run no gap is longer, and none is the last one
   pub longest_at_broken : h ≡ broken → (m : ℕ) → n < m → IsGap (take m text) → ⊥
   longest_at_broken b m low gap = ⊎_elim
-    (λ (below : m < i + 1). r.longest m low (omega arith) gap)
-    (λ (above : i + 1 ≤ m). let f : gap_from clear (take m text) ≡ broken = broken_beyond b m above in cc)
-    (cases_lt m (i + 1))
+      (λ (below : m < i + 1). r.longest m low (omega arith) gap)
+      (λ (above : i + 1 ≤ m). let f : gap_from clear (take m text) ≡ broken = broken_beyond b m above in cc)
+      (cases_lt m (i + 1))
 
   pub broken_at_last : h ≡ broken → gap_from clear text ≡ broken
   broken_at_last b = subst (λ k. gap_from clear k ≡ broken) (take_all (length text) text (omega arith)) (broken_beyond b (length text) (omega arith))

@@ -40,12 +40,12 @@ module _ {text : Text} {n : ℕ} {digits : Text} (run : IsRun text n digits) whe
 
   pub run_out_of_range : nat_le (value_of 0 digits) greatest_size ≡ false → HasNoFront text
   run_out_of_range h k m f = ⊎_elim
-    (λ (e : m ≡ n). both_ways _ h (spells_in_range k (subst (λ i. spells k (take i text) ≡ true) e f.spelled)))
-    (λ s. ⊎_elim
+      (λ (e : m ≡ n). both_ways _ h (spells_in_range k (subst (λ i. spells k (take i text) ≡ true) e f.spelled)))
+      (λ s. ⊎_elim
       (λ (l : m < n). both_ways _ (f.longest k n l run.within) (or_right (spells k (take n text)) (is_number_text (take n text)) run.number))
       (λ (l : n < m). both_ways _ (run.beyond m l f.within) (spells-any k (take m text) f.spelled))
       s)
-    (cases_order m n)
+      (cases_order m n)
 
 -- a digit begins a run of digits
 digit_run : (b : ℕ) (r : Text) → is_digit b ≡ true → IsRun (b ∷ r) (suc (prefix_len is_digit r)) (b ∷ take (prefix_len is_digit r) r)
@@ -99,32 +99,32 @@ moved text s n i k e f h =
 pub number_run : (text : Text) (s n : ℕ) → 0 < length text → begins_number (get_or text 0 0) ≡ true → s ≡ bool_byte (nat_eq (get_or text 0 0) 45) → n ≡ prefix_len is_digit (drop s text) → 0 < n → IsRun text (s + n) (take n (drop s text))
 number_run [] s n l h e f p = absurd (omega arith)
 number_run (b ∷ r) s n l h e f p = ⊎_elim
-  (λ (d : is_digit b ≡ true).
-      let z : s ≡ 0 = e ∙ ap bool_byte (digit_begins b d).minus_is in
-      let m : n ≡ suc (prefix_len is_digit r) = f ∙ ap (λ k. prefix_len is_digit (drop k (b ∷ r))) z ∙ prefix_len-yes is_digit b r d in
-      let j : suc (prefix_len is_digit r) ≡ 0 + suc (prefix_len is_digit r) = omega arith in
-      moved (b ∷ r) s n 0 (suc (prefix_len is_digit r)) z m (subst (λ k. IsRun (b ∷ r) k (b ∷ take (prefix_len is_digit r) r)) j (digit_run b r d)))
-  (λ (d : nat_eq b 45 ≡ true).
-      let z : s ≡ 1 = e ∙ ap bool_byte d in
-      let m : n ≡ prefix_len is_digit r = f ∙ ap (λ k. prefix_len is_digit (drop k (b ∷ r))) z in
-      let j : suc (prefix_len is_digit r) ≡ 1 + prefix_len is_digit r = omega arith in
-      moved (b ∷ r) s n 1 (prefix_len is_digit r) z m
-        (subst (λ c. IsRun (c ∷ r) (1 + prefix_len is_digit r) (take (prefix_len is_digit r) r)) (sym (eqb-true b 45 d))
-        (subst (λ k. IsRun (45 ∷ r) k (take (prefix_len is_digit r) r)) j (minus_run r (omega arith)))))
-  (or_cases (is_digit b) (nat_eq b 45) h)
+    (λ (d : is_digit b ≡ true).
+    let z : s ≡ 0 = e ∙ ap bool_byte (digit_begins b d).minus_is in
+    let m : n ≡ suc (prefix_len is_digit r) = f ∙ ap (λ k. prefix_len is_digit (drop k (b ∷ r))) z ∙ prefix_len-yes is_digit b r d in
+    let j : suc (prefix_len is_digit r) ≡ 0 + suc (prefix_len is_digit r) = omega arith in
+    moved (b ∷ r) s n 0 (suc (prefix_len is_digit r)) z m (subst (λ k. IsRun (b ∷ r) k (b ∷ take (prefix_len is_digit r) r)) j (digit_run b r d)))
+    (λ (d : nat_eq b 45 ≡ true).
+    let z : s ≡ 1 = e ∙ ap bool_byte d in
+    let m : n ≡ prefix_len is_digit r = f ∙ ap (λ k. prefix_len is_digit (drop k (b ∷ r))) z in
+    let j : suc (prefix_len is_digit r) ≡ 1 + prefix_len is_digit r = omega arith in
+    moved (b ∷ r) s n 1 (prefix_len is_digit r) z m
+    (subst (λ c. IsRun (c ∷ r) (1 + prefix_len is_digit r) (take (prefix_len is_digit r) r)) (sym (eqb-true b 45 d))
+    (subst (λ k. IsRun (45 ∷ r) k (take (prefix_len is_digit r) r)) j (minus_run r (omega arith)))))
+    (or_cases (is_digit b) (nat_eq b 45) h)
 
 pub number_none : (text : Text) (s : ℕ) → 0 < length text → begins_number (get_or text 0 0) ≡ true → s ≡ bool_byte (nat_eq (get_or text 0 0) 45) → prefix_len is_digit (drop s text) ≡ 0 → HasNoFront text
 number_none [] s l h e f = absurd (omega arith)
 number_none (b ∷ r) s l h e f = ⊎_elim
-  (λ (d : is_digit b ≡ true).
-      let z : s ≡ 0 = e ∙ ap bool_byte (digit_begins b d).minus_is in
-      let m : 0 ≡ suc (prefix_len is_digit r) = sym f ∙ ap (λ k. prefix_len is_digit (drop k (b ∷ r))) z ∙ prefix_len-yes is_digit b r d in
-      absurd (omega arith))
-  (λ (d : nat_eq b 45 ≡ true).
-      let z : s ≡ 1 = e ∙ ap bool_byte d in
-      let m : prefix_len is_digit r ≡ 0 = sym (ap (λ k. prefix_len is_digit (drop k (b ∷ r))) z) ∙ f in
-      subst (λ c. HasNoFront (c ∷ r)) (sym (eqb-true b 45 d)) (minus_alone r m))
-  (or_cases (is_digit b) (nat_eq b 45) h)
+    (λ (d : is_digit b ≡ true).
+    let z : s ≡ 0 = e ∙ ap bool_byte (digit_begins b d).minus_is in
+    let m : 0 ≡ suc (prefix_len is_digit r) = sym f ∙ ap (λ k. prefix_len is_digit (drop k (b ∷ r))) z ∙ prefix_len-yes is_digit b r d in
+    absurd (omega arith))
+    (λ (d : nat_eq b 45 ≡ true).
+    let z : s ≡ 1 = e ∙ ap bool_byte d in
+    let m : prefix_len is_digit r ≡ 0 = sym (ap (λ k. prefix_len is_digit (drop k (b ∷ r))) z) ∙ f in
+    subst (λ c. HasNoFront (c ∷ r)) (sym (eqb-true b 45 d)) (minus_alone r m))
+    (or_cases (is_digit b) (nat_eq b 45) h)
 
 -- what the code answers
 pub integer_found : {text : Text} {n : ℕ} {digits : Text} (run : IsRun text n digits) (t : Bool) (r : Option ℕ) → t ≡ nat_le (value_of 0 digits) greatest_size → r ≡ then_some t n → MatchOption r (HasNoFront text) (IsFront text Integer)

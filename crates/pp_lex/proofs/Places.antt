@@ -56,12 +56,12 @@ module _ {text : Text} {i n : ℕ} (g : IsWholeGap text i n) where
 
   pub ends_within : i + n < length text
   ends_within = ⊎_elim
-    (λ (l : i + n < length text). l)
-    (λ (l : length text ≤ i + n).
-        let all : length (drop i text) ≤ n = omega (arith, length-drop i text) in
-        let e : gap_from clear (drop i text) ≡ clear = subst IsGap (take_all n (drop i text) all) g.is_gap in
-        absurd (g.not_last (ap ends_gap e)))
-    (cases_lt (i + n) (length text))
+      (λ (l : i + n < length text). l)
+      (λ (l : length text ≤ i + n).
+      let all : length (drop i text) ≤ n = omega (arith, length-drop i text) in
+      let e : gap_from clear (drop i text) ≡ clear = subst IsGap (take_all n (drop i text) all) g.is_gap in
+      absurd (g.not_last (ap ends_gap e)))
+      (cases_lt (i + n) (length text))
 
   pub bad_after : HasNoFront (drop (i + n) text) → IsBadAfter text i
   bad_after none =

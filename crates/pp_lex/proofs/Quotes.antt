@@ -84,9 +84,9 @@ module _ {text : Text} {is_open : Bool} {size : Option ℕ} {i : ℕ} (q : Quote
 
   pub stops : ((bs : Text) → leads_to is_open (b ∷ bs) ≡ false) → MatchOption size (HasNoRest text) (IsLongestRest text)
   stops f = longest_at_end text size (longest_on text i (length text) size (omega arith) q.longest
-    (λ m low high.
-        let same : m ≡ (i + 1) + (m - (i + 1)) = omega arith in
-        ap (λ n. is_quoted_rest (take n text)) same ∙ next (m - (i + 1)) ∙ f (take (m - (i + 1)) (drop (i + 1) text))))
+      (λ m low high.
+      let same : m ≡ (i + 1) + (m - (i + 1)) = omega arith in
+      ap (λ n. is_quoted_rest (take n text)) same ∙ next (m - (i + 1)) ∙ f (take (m - (i + 1)) (drop (i + 1) text))))
 
 pub stops_behind : (is_open : Bool) (b : ℕ) → is_open ≡ false → (b ≡ 39 → ⊥) → (bs : Text) → leads_to is_open (b ∷ bs) ≡ false
 stops_behind is_open b o n bs = ap (λ x. leads_to x (b ∷ bs)) o ∙ and_left (nat_eq b 39) (is_quoted_rest bs) (ne_eqb b 39 n)

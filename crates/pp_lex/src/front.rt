@@ -74,7 +74,11 @@ fn word(rest: &[u8]) -> (Kind, usize)
     ensures { IsFront rest.now result.0 result.1 }
 {
     let size = word_size(rest);
-    let kind = if &rest[..size] == b"infers".as_slice() { Kind::Infers } else { Kind::Atom };
+    let kind = if &rest[..size] == b"infers".as_slice() {
+        Kind::Infers
+    } else {
+        Kind::Atom
+    };
     (kind, size)
 }
 

@@ -70,9 +70,15 @@ pub fn measure_gap(rest: &[u8]) -> Gap
         state = state.after(*byte);
         match state {
             State::Clear => size = at + 1,
-            State::Broken => return Gap { size, is_last: false },
+            State::Broken => return Gap {
+                size,
+                is_last: false,
+            },
             _ => {}
         }
     }
-    Gap { size, is_last: state.ends() }
+    Gap {
+        size,
+        is_last: state.ends(),
+    }
 }

@@ -13,13 +13,14 @@ use std::mem;
 
 /// What stands behind a place, past white space and comments.
 #[derive(Clone, Copy, Debug)]
-enum Item {
+pub(crate) enum Item {
     Token(Token),
     End,
     Bad,
 }
 
-fn next(bytes: &[u8], place: usize) -> Item
+/// What stands behind a place.
+pub(crate) fn next(bytes: &[u8], place: usize) -> Item
     requires within { place ≤ length bytes.now }
     requires small { length bytes.now ≤ 4194304 }
     ensures { IsItem bytes.now place result }
@@ -40,7 +41,12 @@ fn next(bytes: &[u8], place: usize) -> Item
 }
 
 /// Adds a token to what is collected: a point ends a sentence.
-fn add(alloc: Global, list: &mut Vec<Sentence>, tokens: &mut Vec<Token>, token: Token) -> Result<(), AllocError>
+fn add(
+    alloc: Global,
+    list: &mut Vec<Sentence>,
+    tokens: &mut Vec<Token>,
+    token: Token,
+) -> Result<(), AllocError>
     ensures { (all : List Token) → FallInto all (tokens_of list.old.items) tokens.old.items
         → OnOk result (FallInto (all ++ token ∷ []) (tokens_of list.new.items) tokens.new.items) }
 {

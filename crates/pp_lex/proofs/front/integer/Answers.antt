@@ -23,8 +23,8 @@ returns c =
     let rest = take_rest text s in
     let size = c.digits_size-size.ensures ∙ ap (prefix_len is_digit) rest in
     elim c.if-size-gt0.branch [
-      then-size-gt0 w ↦ integer_found (number_run text s n c.requires.some c.requires.begins c.from-sign.ensures size w.if-size-gt0.true) _ _
-        (w.then_some-is ∙ w.is_in_range.ensures ∙ ap (λ bs. nat_le (value_of 0 (take n bs)) greatest_size) rest) c.then_some.ensures
+      | then-size-gt0 w ↦ integer_found (number_run text s n c.requires.some c.requires.begins c.from-sign.ensures size w.if-size-gt0.true) _ _
+          (w.then_some-is ∙ w.is_in_range.ensures ∙ ap (λ bs. nat_le (value_of 0 (take n bs)) greatest_size) rest) c.then_some.ensures
       | else-size-gt0 w ↦ integer_missing text _ _ _ (w.then_some-is ∙ le-ltb 0 n w.if-size-gt0.false) c.then_some.ensures
-        (number_none text s c.requires.some c.requires.begins c.from-sign.ensures (sym size ∙ omega (arith, w.if-size-gt0.false)))
+          (number_none text s c.requires.some c.requires.begins c.from-sign.ensures (sym size ∙ omega (arith, w.if-size-gt0.false)))
     ]

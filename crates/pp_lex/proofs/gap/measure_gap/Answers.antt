@@ -15,6 +15,6 @@ returns-in-Broken-clause-last c =
 
 pub loop-at-preserved : goal.loop-at-preserved
 loop-at-preserved c = elim c.match-state.branch [
-  in-Clear w ↦ rw w.size-is (read_clear c.loop-at.invariant 0 c.loop-at-test.true c.after-state.ensures (ap gap_of w.in-Clear.is))
+  | in-Clear w ↦ rw w.size-is (read_clear c.loop-at.invariant 0 c.loop-at-test.true c.after-state.ensures (ap gap_of w.in-Clear.is))
   | in_default w ↦ rw w.size-is (read_on c.loop-at.invariant 0 c.loop-at-test.true c.after-state.ensures (λ e. w.in_default.not-Clear (only_clear _ e)))
 ]
