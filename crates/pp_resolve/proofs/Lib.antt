@@ -1,0 +1,4 @@
+pub mod Places
+pub mod Bound
+pub mod Ground
+pub mod Search

@@ -87,5 +87,6 @@ fn answer(alloc: Global, values: &[u32]) -> Result<Row, AllocError>
     for value in values {
         columns.push(Term::atom(alloc, *value)?)?;
     }
-    Row::canon(alloc, columns)
+    let row = Row::canon(alloc, columns)?;
+    Ok(row)
 }
