@@ -1,5 +1,5 @@
 -- What matching gives: the only values at which the columns are the head, or that there are none.
-use Rattle.std.proofs.Common.{◌≡◌, ℕ, zero, suc, ◌<◌, ◌≤◌, Bool, true, false, List, [], ◌∷◌, ◌++◌, length, map, get_or, All, ℤ, Option, Some, None, option_and_then, refl, ap, sym, ◌∙◌, arith, subst, inl, inr, length-append}
+use Rattle.std.proofs.Common.{◌≡◌, ℕ, suc, ◌<◌, ◌≤◌, Bool, true, false, List, [], ◌∷◌, ◌++◌, length, get_or, All, ℤ, Option, Some, None, option_and_then, refl, ap, sym, ◌∙◌, arith, subst, inl, inr, length-append}
 use Rattle.std.specs.Prelude.{cond, nat_eq, nat_lt}
 use Rattle.std.proofs.lemmas.Bool.{ltb-true, ltb-false, lt-ltb, le-ltb}
 use Rattle.std.proofs.lemmas.List.{get_or_append_left, get_or_push}

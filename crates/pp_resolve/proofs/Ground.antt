@@ -4,20 +4,20 @@ use Rattle.std.specs.Prelude.{nat_eq}
 use Rattle.std.proofs.lemmas.List.{length-map}
 use Rattle.std.proofs.lemmas.List.Elements.{All-head, All-tail, All-nil}
 use Rattle.pp_algebra.specs.Terms.{Tree, int, node, variable, Trees, none, more, count, put, put_all, variables_all}
-use Rattle.pp_algebra.specs.Rows.{Row, Domains, IsRow, domain_at, pattern_of}
-use Rattle.pp_algebra.specs.Covers.{MayGo, IsIn, Covers}
-use Rattle.pp_algebra.specs.Canon.{canon, firsts}
-use Rattle.pp_algebra.specs.Solve.{Item, equations, AllHold, Meets, IsSolved, HasNone}
+use Rattle.pp_algebra.specs.Rows.{Row, Domains, IsRow, domain_at}
+use Rattle.pp_algebra.specs.Covers.{MayGo, IsIn}
+use Rattle.pp_algebra.specs.Canon.{canon}
+use Rattle.pp_algebra.specs.Solve.{equations, AllHold}
 use Rattle.pp_algebra.proofs.Put.{put-put, put_all-put_all, count-put_all}
-use Rattle.pp_sld.specs.Goals.{Predicate, user, Config, Program, Clause}
-use Rattle.pp_sld.specs.Ways.{Way, old, new, two_domains, pattern_of_way, clause_way, Leads, IsDead}
-use Rattle.pp_sld.specs.Leaves.{variables_from, root, leaf_row}
+use Rattle.pp_sld.specs.Goals.{Predicate, user, Config}
+use Rattle.pp_sld.specs.Ways.{Way, old, new, two_domains, clause_way, Leads, IsDead}
+use Rattle.pp_sld.specs.Leaves.{variables_from, root}
 use Rattle.pp_term.specs.Columns.{trees_of, any_domains, free_row, free_pattern}
 use Rattle.pp_term.proofs.Lists.{length-any_domains}
 use Rattle.pp_resolve.specs.Facts.{IsAtom}
-use Rattle.pp_resolve.specs.Matching.{atom, ground_row, name_of}
+use Rattle.pp_resolve.specs.Matching.{atom, ground_row}
 use Rattle.pp_resolve.proofs.Places.{count-trees_of}
-use Rattle.pp_resolve.proofs.Bound.{Bound, Known, Result, value, atom_is}
+use Rattle.pp_resolve.proofs.Bound.{Bound, Known, Result, value}
 
 no_variables : (vs : List ℕ) → variables_all (trees_of (map atom vs)) ≡ []
 no_variables [] = refl
@@ -46,7 +46,7 @@ spread_known s vs n e k = ap (λ m. put_all s (variables_from 0 m)) (sym e) ∙ 
 old_kind : (s : ℕ ⊎ ℕ → Tree ℕ) → ℕ → Tree ℕ
 old_kind s v = s (inl v)
 
-no_domain : (n v : ℕ) → domain_at (any_domains n) v ≡ None
+pub no_domain : (n v : ℕ) → domain_at (any_domains n) v ≡ None
 no_domain zero v = refl
 no_domain (suc n) zero = refl
 no_domain (suc n) (suc v) = no_domain n v
@@ -118,12 +118,12 @@ leads p cs hs n depth vs a l b = record {
       holds = to_holding (domain_at []) (values vs) hs cs a l b.matches;
     };
     most = λ q row m.
-      let known = b.only (λ v. m.by (inl v)) (λ v k. absurd (omega (arith, k))) (from_holding (domain_at q.domains) m.by hs cs a l m.holds) in
-      record {
-        by = variable;
-        columns = put-ground variable vs ∙ sym (spread_old m.by vs n b.long known) ∙ m.columns;
-        domains = λ v i. absurd (subst (IsIn v) (no_variables vs) i);
-      };
+        let known = b.only (λ v. m.by (inl v)) (λ v k. absurd (omega (arith, k))) (from_holding (domain_at q.domains) m.by hs cs a l m.holds) in
+        record {
+          by = variable;
+          columns = put-ground variable vs ∙ sym (spread_old m.by vs n b.long known) ∙ m.columns;
+          domains = λ v i. absurd (subst (IsIn v) (no_variables vs) i);
+        };
   };
   goals = refl;
   columns =

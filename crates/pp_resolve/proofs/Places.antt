@@ -1,11 +1,9 @@
 -- Columns by their places.
-use Rattle.std.proofs.Common.{◌≡◌, ℕ, zero, suc, ◌<◌, pos, List, [], ◌∷◌, ◌++◌, length, map, take, get_or, All, refl, ap, sym, ◌∙◌, arith, subst}
-use Rattle.std.proofs.lemmas.List.Elements.{All-get_or}
+use Rattle.std.proofs.Common.{◌≡◌, ℕ, suc, ◌<◌, pos, List, [], ◌∷◌, length, get_or, refl, ap, sym, ◌∙◌, arith}
 use Rattle.pp_algebra.specs.Terms.{Tree, int, Trees, none, more, count}
 use Rattle.pp_algebra.specs.Rows.{Row}
-use Rattle.pp_algebra.specs.Least.{first, rest, least_tree, least_trees}
 use Rattle.pp_term.specs.Columns.{trees_of}
-use Rattle.pp_resolve.specs.Tuples.{listed, column, tuple, general}
+use Rattle.pp_resolve.specs.Tuples.{listed, column}
 
 pub count-trees_of : (ts : List (Tree ℕ)) → count (trees_of ts) ≡ length ts
 count-trees_of [] = refl

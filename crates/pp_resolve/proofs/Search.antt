@@ -1,21 +1,21 @@
 -- The search of one goal over facts.
-use Rattle.std.proofs.Common.{◌≡◌, ℕ, suc, Bool, true, false, List, [], ◌∷◌, ◌++◌, length, map, All, Option, Some, None, refl, ap, sym, ◌∙◌, arith, subst, append-nil}
+use Rattle.std.proofs.Common.{◌≡◌, ℕ, suc, Bool, true, false, List, [], ◌∷◌, ◌++◌, length, map, All, Option, Some, None, refl, sym, ◌∙◌}
 use Rattle.std.specs.Prelude.{cond, nat_eq}
 use Rattle.std.specs.List.{flat_map}
 use Rattle.std.proofs.lemmas.List.{length-map}
 use Rattle.std.proofs.lemmas.List.Elements.{All-head, All-tail, All-nil, All-cons}
-use Rattle.pp_algebra.specs.Terms.{Tree, Trees, none, more, count, variables_all}
+use Rattle.pp_algebra.specs.Terms.{Tree, count, variables_all}
 use Rattle.pp_algebra.specs.Rows.{Row, IsNumbered}
-use Rattle.pp_algebra.proofs.Bools.{nat_is, left_true, right_true}
-use Rattle.pp_sld.specs.Goals.{Predicate, user, Config, Clause, same_predicate, program_of}
-use Rattle.pp_sld.specs.Ways.{Way, clause_way, finished, choices, next}
-use Rattle.pp_sld.specs.Trees.{Search, answer, choice, Searches, no_more, child, failed, IsSearch, AreSearches}
-use Rattle.pp_sld.specs.Trace.{trace, trace_all}
+use Rattle.pp_algebra.proofs.Bools.{nat_is, right_true}
+use Rattle.pp_sld.specs.Goals.{Predicate, user, Clause, same_predicate}
+use Rattle.pp_sld.specs.Ways.{Way, clause_way, finished, next}
+use Rattle.pp_sld.specs.Trees.{answer, choice, Searches, no_more, child, failed, AreSearches}
+use Rattle.pp_sld.specs.Trace.{trace_all}
 use Rattle.pp_sld.specs.Leaves.{root, leaf_row, answer_rows, loose_rows, HasLeaves}
-use Rattle.pp_term.specs.Columns.{trees_of, any_domains, free_row}
+use Rattle.pp_term.specs.Columns.{trees_of, free_row}
 use Rattle.pp_term.specs.Predicates.{predicate_of}
 use Rattle.pp_resolve.specs.declared.fact.Fact.{Fact}
-use Rattle.pp_resolve.specs.Facts.{IsAtom, IsFact, HaveWidth, clause_of, program}
+use Rattle.pp_resolve.specs.Facts.{IsAtom, IsFact, HaveWidth, program}
 use Rattle.pp_resolve.specs.Matching.{bound_all, atom, ground_row, rows_of, found}
 use Rattle.pp_resolve.proofs.Places.{count-trees_of}
 use Rattle.pp_resolve.proofs.Bound.{Result, bound_is}

@@ -1,5 +1,5 @@
 -- Facts as clauses without a body. So far a fact's arguments are atoms.
-use Rattle.std.specs.Prelude.{◌≡◌, ℕ, List, [], ◌∷◌, All, length, map}
+use Rattle.std.specs.Prelude.{◌≡◌, ℕ, List, [], All, length, map}
 use Rattle.pp_algebra.specs.Terms.{Tree, int, node, variable, none, more, count}
 use Rattle.pp_algebra.specs.Rows.{Row}
 use Rattle.pp_sld.specs.Goals.{Predicate, Clause, Program, program_of}

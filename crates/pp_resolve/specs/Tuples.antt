@@ -1,5 +1,5 @@
 -- The terms of several rows in one column, and what they have in common.
-use Rattle.std.specs.Prelude.{◌≡◌, ◌<◌, ◌⊎◌, ℕ, pos, List, [], ◌∷◌, ◌++◌, length, map, slice_index_or}
+use Rattle.std.specs.Prelude.{◌≡◌, ◌<◌, ◌⊎◌, ℕ, zero, suc, pos, List, [], ◌∷◌, ◌++◌, length, map, slice_index_or}
 use Rattle.pp_algebra.specs.Terms.{Tree, int, variable, Trees, none, more, put, variables}
 use Rattle.pp_algebra.specs.Rows.{Row, IsNumbered}
 use Rattle.pp_algebra.specs.Canon.{Distinct, same_list}
@@ -28,9 +28,11 @@ pub record IsApart (ts : List (Tree ℕ)) : Type 0 where
   pub general : general ts ≡ variable ts
   pub first : IsTerm (slice_index_or ts 0 (int (pos 0)))
 
--- what a variable of the result stands for: the terms in the column with that number among these
+-- what a variable of the result stands for: the terms with that number among these
 abbrev pub named : List (List (Tree ℕ)) → ℕ → Tree (List (Tree ℕ))
-named names v = variable (slice_index_or names v [])
+named [] v = int (pos 0)
+named (ts ∷ names) zero = variable ts
+named (ts ∷ names) (suc v) = named names v
 
 -- the term stands for the general one, whatever further names come
 abbrev pub StandsFor : List (List (Tree ℕ)) → Tree ℕ → Tree (List (Tree ℕ)) → Type 0

@@ -2,8 +2,9 @@
 ghost use Rattle.std.specs.Prelude.{◌≡◌, ◌≢◌, ℕ, ◌<◌, ◌↔◌, All, IfOk, IsTrue, MatchOption, length, slice_index_or, []};
 ghost use Rattle.pp_algebra.specs.Terms.{count, node, variable, none};
 ghost use Rattle.pp_algebra.specs.Least.{least_list};
+ghost use Rattle.pp_term.specs.Cells.{cell_tree};
 ghost use Rattle.pp_resolve.specs.Facts.{HaveWidth, HaveOneWidth};
-ghost use Rattle.pp_resolve.specs.Tuples.{tuple, general, names, IsApart, AreLeaders, Generalises};
+ghost use Rattle.pp_resolve.specs.Tuples.{column, tuple, general, names, IsApart, AreLeaders, Generalises};
 
 use pp_term::{Cell, Row, Term};
 use std::alloc::{AllocError, Global};
@@ -40,10 +41,14 @@ fn generalised(
     ensures { IfOk result (λ t. Generalises rows.now column leaders.old.items leaders.new.items t) }
 {
     match common_atom(rows, column) {
-        Some(name) => Term::atom(alloc, name),
+        Some(name) => {
+            let term = Term::atom(alloc, name)?;
+            Ok(term)
+        }
         None => {
             let place = number(rows, leaders, column)?;
-            Term::variable(alloc, place)
+            let term = Term::variable(alloc, place)?;
+            Ok(term)
         }
     }
 }
@@ -54,15 +59,45 @@ fn common_atom(rows: &[Row], column: usize) -> Option<u32>
     requires within { All (λ r. column < count r.columns) rows.now }
     ensures { MatchOption result (IsApart (tuple column rows.now)) (λ name. general (tuple column rows.now) ≡ node name none) }
 {
-    let Cell::Atom(name) = rows[0].columns()[column].top() else {
-        return None;
+    let name = match cell_at(&rows[0], column) {
+        Cell::Atom(name) => name,
+        Cell::Var(_) => return None,
     };
     for row in rows {
-        if row.columns()[column].top() != Cell::Atom(name) {
+        if !has_atom(row, column, name) {
             return None;
         }
     }
     Some(name)
+}
+
+/// The cell of the term in the column.
+fn cell_at(row: &Row, place: usize) -> Cell
+    requires { place < count row.now.columns }
+    ensures { column place row.now ≡ cell_tree result }
+{
+    row.columns()[place].top()
+}
+
+/// Whether the row has the atom in the column.
+fn has_atom(row: &Row, place: usize, name: u32) -> bool
+    requires { place < count row.now.columns }
+    ensures { IsTrue result ↔ (column place row.now ≡ node name none) }
+{
+    match cell_at(row, place) {
+        Cell::Atom(own) => own == name,
+        Cell::Var(_) => false,
+    }
+}
+
+/// Whether the row has the same term in both columns.
+fn same_columns(row: &Row, left: usize, right: usize) -> bool
+    requires left { left < count row.now.columns }
+    requires right { right < count row.now.columns }
+    ensures { IsTrue result ↔ (column left row.now ≡ column right row.now) }
+{
+    let columns = row.columns();
+    columns[left].same(&columns[right])
 }
 
 /// Whether each row has the same term in both columns.
@@ -72,8 +107,7 @@ fn same_tuple(rows: &[Row], left: usize, right: usize) -> bool
     ensures { IsTrue result ↔ (tuple left rows.now ≡ tuple right rows.now) }
 {
     for row in rows {
-        let columns = row.columns();
-        if !columns[left].same(&columns[right]) {
+        if !same_columns(row, left, right) {
             return false;
         }
     }
@@ -102,13 +136,15 @@ fn number(rows: &[Row], leaders: &mut Vec<usize>, column: usize) -> Result<u32, 
     requires apart { IsApart (tuple column rows.now) }
     ensures { IfOk result (λ place. Generalises rows.now column leaders.old.items leaders.new.items (variable place)) }
 {
-    let place = match find(rows, leaders, column) {
-        Some(place) => place,
-        None => {
-            leaders.push(column)?;
-            leaders.len() - 1
+    match find(rows, leaders, column) {
+        Some(place) => {
+            let number = u32::try_from(place).map_err(|_| AllocError)?;
+            Ok(number)
         }
-    };
-    let number = u32::try_from(place).map_err(|_| AllocError)?;
-    Ok(number)
+        None => {
+            let number = u32::try_from(leaders.len()).map_err(|_| AllocError)?;
+            leaders.push(column)?;
+            Ok(number)
+        }
+    }
 }

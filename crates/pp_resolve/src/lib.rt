@@ -4,7 +4,6 @@
 mod answers;
 mod fact;
 mod least;
-
 #[cfg(test)]
 mod tests;
 

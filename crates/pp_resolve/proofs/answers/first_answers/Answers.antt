@@ -1,14 +1,13 @@
-use Rattle.std.proofs.Common.{◌≡◌, ℕ, suc, [], List, length, take, ap, sym, ◌∙◌, subst, All, arith, rules}
+use Rattle.std.proofs.Common.{◌≡◌, suc, [], List, length, ap, sym, ◌∙◌, subst, rules}
 use Rattle.std.specs.List.{flat_map}
 use Rattle.std.proofs.lemmas.List.{take_all}
-use Rattle.pp_algebra.specs.Terms.{Tree, count, variables_all}
+use Rattle.pp_algebra.specs.Terms.{count, variables_all}
 use Rattle.pp_algebra.specs.Rows.{Row, IsNumbered}
 use Rattle.pp_sld.specs.Goals.{user}
 use Rattle.pp_sld.specs.Leaves.{HasLeaves, root}
 use Rattle.pp_term.specs.Predicates.{predicate_of}
 use Rattle.pp_term.specs.Columns.{trees_of}
 use Rattle.pp_resolve.specs.Facts.{HaveWidth, program}
-use Rattle.pp_resolve.specs.declared.fact.Fact.{Fact}
 use Rattle.pp_resolve.specs.Facts.{IsFact}
 use Rattle.pp_resolve.specs.Matching.{found}
 use Rattle.pp_resolve.proofs.Places.{count-trees_of}

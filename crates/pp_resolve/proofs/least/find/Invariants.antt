@@ -1,4 +1,4 @@
-use Rattle.std.proofs.Common.{◌≡◌, ◌≢◌, take, All}
+use Rattle.std.proofs.Common.{◌≢◌, take, All}
 use Rattle.pp_resolve.specs.Tuples.{tuple}
 use Rattle.pp_resolve.proofs.least.find.Given as goal
 

@@ -7,6 +7,7 @@ use Rattle.pp_resolve.proofs.least.first_least.Given as goal
 
 abbrev pub invariant-loop-column : goal.invariant-loop-column
 invariant-loop-column l = record {
+  some : 0 < length l.rows;
   long : length l.columns.items ≡ l.column;
   within : All (λ k. All (λ r. k < count r.columns) l.rows) l.leaders.items;
   leaders : AreLeaders l.rows l.leaders.items;
