@@ -6,6 +6,7 @@ mod names;
 mod pred;
 mod row;
 mod term;
+mod terms;
 #[cfg(test)]
 mod tests;
 
@@ -14,3 +15,4 @@ pub use names::Names;
 pub use pred::Pred;
 pub use row::{Row, same_terms};
 pub use term::Term;
+pub use terms::Terms;

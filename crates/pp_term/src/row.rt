@@ -67,6 +67,7 @@ impl Row {
     /// The columns.
     pub fn columns(&self) -> &[Term]
         ensures columns { trees_of result.now ≡ self.now.columns }
+        ensures any { self.now.domains ≡ any_domains (length self.now.domains) }
         ensures row { IsRow self.now }
     {
         self.columns.as_slice()
