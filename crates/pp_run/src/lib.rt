@@ -3,6 +3,7 @@
 
 mod command;
 mod reply;
+mod store;
 mod words;
 
 pub use command::alone;
