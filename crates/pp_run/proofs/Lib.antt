@@ -4,3 +4,4 @@ pub mod SameRows
 pub mod FreeRows
 pub mod Columns
 pub mod FirstVerdicts
+pub mod FirstRuns

@@ -3,6 +3,7 @@
 
 mod command;
 mod reply;
+mod run;
 mod store;
 mod words;
 
