@@ -1,5 +1,5 @@
 -- What a steady source has left, and what a steady sink tells.
-use Rattle.std.specs.Prelude.{◌≤◌, ℕ, List, ◌++◌, length, Option, None, Some, nat_le, if◌then◌else◌}
+use Rattle.std.specs.Prelude.{ℕ, List, ◌++◌, length, Option, None, Some, nat_le, if◌then◌else◌}
 
 -- the bytes still to come, and the most that a call gives
 pub record SteadyInput : Type 0 where

@@ -1,6 +1,5 @@
 // The count of calls, of which some are to fail.
-ghost use Rattle.std.specs.Prelude.{◌≡◌, ◌↔◌, ◌≤◌, IsTrue, IfOk, vec_items};
-ghost use Rattle.pp_io.specs.Ends.{next_count};
+ghost use Rattle.std.specs.Prelude.{◌≡◌, ◌↔◌, ◌≤◌, IsTrue, IfOk};
 ghost use Rattle.pp_io.specs.Memory.{CallCounts, IsNextFailing, after_call, after_fault};
 
 use super::ends::Failed;

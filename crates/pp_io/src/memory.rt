@@ -1,5 +1,5 @@
 // Ends in memory, of which a test says which calls fail.
-ghost use Rattle.std.specs.Prelude.{◌≡◌, ◌↔◌, ◌<◌, ◌≤◌, List, [], ◌++◌, length, min, take, drop, vec_len, Some, IfOk, OnErr, IsErr};
+ghost use Rattle.std.specs.Prelude.{◌≡◌, ◌↔◌, ◌<◌, ◌≤◌, [], ◌++◌, length, min, take, drop, vec_len, Some, IfOk, OnErr, IsErr};
 ghost use Rattle.pp_io.specs.Ends.{Rose, Gave, Took, ShowsEnd, IsRefused};
 ghost use Rattle.pp_io.specs.Memory.{MemoryEnd, IsNextFailing, FailedOnly, Left};
 
@@ -31,8 +31,11 @@ impl MemorySource {
     /// from 1, are in `failing` fail.
     pub fn new(bytes: Vec<u8>, piece: usize, failing: Vec<u64>) -> MemorySource
         requires { 1 ≤ piece }
-        ensures { result ≡ record { bytes = bytes.items; piece = piece;
-            calls = record { failing = failing.items; made = 0; faults = 0 } } }
+        ensures { result ≡ record {
+          bytes = bytes.items;
+          piece = piece;
+          calls = record { failing = failing.items; made = 0; faults = 0 };
+        } }
     {
         MemorySource {
             bytes,
@@ -102,8 +105,11 @@ impl MemorySink {
     /// are in `failing` fail, and so does a call for whose bytes there is no memory.
     pub fn new(alloc: Global, piece: usize, failing: Vec<u64>) -> MemorySink
         requires { 1 ≤ piece }
-        ensures { result ≡ record { bytes = []; piece = piece;
-            calls = record { failing = failing.items; made = 0; faults = 0 } } }
+        ensures { result ≡ record {
+          bytes = [];
+          piece = piece;
+          calls = record { failing = failing.items; made = 0; faults = 0 };
+        } }
     {
         MemorySink {
             taken: Vec::new(alloc),

@@ -1,5 +1,5 @@
 // Reading all of a source.
-ghost use Rattle.std.specs.Prelude.{◌≡◌, ◌↔◌, ℕ, ◌<◌, ◌≤◌, List, length, vec_len, IfOk, OnOk, OnErr, IfSome, IsErrOf};
+ghost use Rattle.std.specs.Prelude.{◌≡◌, ◌↔◌, ℕ, ◌<◌, ◌≤◌, List, length, vec_len, IfOk, OnOk, IfSome, IsErrOf};
 ghost use Rattle.pp_io.specs.declared.reading.ReadError.TheVariants.{Fault, Memory};
 ghost use Rattle.pp_io.specs.Ends.{Rose, Gave, GaveAll};
 

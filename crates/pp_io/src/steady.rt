@@ -1,7 +1,7 @@
 // Ends that never fail.
-ghost use Rattle.std.specs.Prelude.{◌≡◌, ◌+◌, ◌-◌, ℕ, ◌<◌, ◌≤◌, List, [], length, min, take, drop, vec_len, Some, None, Option, IfOk, OnErr, IsOk, IsOkAnd, IfSome, unwrap_or, if◌then◌else◌, false};
+ghost use Rattle.std.specs.Prelude.{◌≡◌, ◌<◌, ◌≤◌, [], length, min, take, drop, vec_len, Some, None, IfOk, unwrap_or, if◌then◌else◌, false};
 ghost use Rattle.std.specs.Vec.{vec_capacity};
-ghost use Rattle.pp_io.specs.Ends.{Rose, Gave, Took, ShowsEnd, IsRefused};
+ghost use Rattle.pp_io.specs.Ends.{Gave, Took, ShowsEnd};
 ghost use Rattle.pp_io.specs.Steady.{SteadyInput, SteadyOutput, told_after};
 
 use super::ends::{Failed, Sink, Source};

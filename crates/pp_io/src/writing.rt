@@ -12,7 +12,8 @@ pub enum WriteError {
     Fault,
 }
 
-/// Writes all of `bytes`, handing the whole rest to each write.
+/// Writes all of `bytes`, handing the whole rest to each write. Of no bytes it makes no write, and it
+/// takes no memory.
 pub fn write_all<K: Sink>(sink: &mut K, bytes: &[u8]) -> Result<(), WriteError>
     ensures count { K.faults sink.old ≤ K.faults sink.new }
     ensures all { OnOk result (Took (K.taken sink.old) (K.taken sink.new) bytes.now) }

@@ -3,8 +3,10 @@
 //! The crate is read by contracts: beside a few plain types its functions have no code, and each one's contract is a law.
 #![tactic(auto)]
 
+mod laws;
 mod status;
 mod token;
 
+pub use laws::tokenisation_is_unique;
 pub use status::Status;
 pub use token::{Kind, Token};

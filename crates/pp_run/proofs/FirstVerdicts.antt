@@ -5,15 +5,14 @@ use Rattle.pp_algebra.specs.Rows.{Row}
 use Rattle.pp_algebra.specs.Canon.{same_row}
 use Rattle.pp_algebra.specs.Least.{least_row, least_list}
 use Rattle.pp_algebra.specs.Terms.{Tree, count}
-use Rattle.pp_algebra.proofs.Put.{count-put_all}
-use Rattle.pp_algebra.proofs.Law.{least_row-covers}
+use Rattle.pp_algebra.proofs.Law.{count-covers, least_row-covers}
 use Rattle.pp_sld.specs.Goals.{Predicate, user, Program}
 use Rattle.pp_sld.specs.Leaves.{call, root, HasLeaves}
 use Rattle.pp_propagation.specs.Turns.{HasVerdict}
 use Rattle.pp_resolve.specs.Facts.{HaveWidth}
 use Rattle.pp_run.specs.RunOutcomes.{asked}
 use Rattle.pp_sld.specs.Verdicts.{Verdict, fail, same, narrow, unfinished, most, verdict}
-use Rattle.pp_run.proofs.SameRows.{same_row-sound, same_row-itself}
+use Rattle.pp_algebra.proofs.SameRow.{same_row-sound, same_row-itself}
 
 pub not_same : (r q : Row) → (r ≡ q → ⊥) → same_row r q ≡ false
 not_same r q h = go (same_row r q) refl
@@ -51,4 +50,4 @@ given_width [] given n h e = absurd (cc)
 given_width (a ∷ A) given n h e =
     let g : least_row a A ≡ given = cc in
     let c = least_row-covers a A a (inl refl) refl in
-    ap (λ r. count r.columns) (sym g) ∙ sym (count-put_all c.by (least_row a A).columns) ∙ ap count c.columns ∙ h 0 a (omega arith)
+    ap (λ r. count r.columns) (sym g) ∙ count-covers (least_row a A) a c ∙ h 0 a (omega arith)

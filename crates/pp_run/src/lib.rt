@@ -2,6 +2,7 @@
 #![tactic(auto)]
 
 mod command;
+mod print;
 mod reply;
 mod run;
 mod store;

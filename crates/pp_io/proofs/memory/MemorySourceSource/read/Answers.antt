@@ -8,4 +8,4 @@ pub returns-clause-given : goal.returns-clause-given
 returns-clause-given c =
     sym (ap (λ (e : MemoryEnd). e.bytes) c.self.view_is)
     ∙ gave_from c.self.inside.bytes.items c.give-n.new.into c.self.inside.given c.give-n.result
-        (grind (arith, common_steps, c.deref.ensures.value, c.give-n.ensures.given))
+    (grind (arith, common_steps, c.deref.ensures.value, c.give-n.ensures.given))

@@ -1,0 +1,13 @@
+//! Cuts a text into tokens, and collects the tokens into sentences.
+#![tactic(auto)]
+
+mod front;
+mod gap;
+mod lexed;
+mod lists;
+mod scan;
+
+pub use lexed::{Lexed, tokens};
+pub use lists::{Sentence, SentenceList, Sentences, Tail, Tokens};
+pub use pp_language::{Kind, Token};
+pub use scan::sentences;
