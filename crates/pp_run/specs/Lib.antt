@@ -1,1 +1,4 @@
 pub mod Endings
+pub mod RunStores
+pub mod RunPlaces
+pub mod RunOutcomes

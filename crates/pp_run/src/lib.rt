@@ -4,6 +4,8 @@
 mod command;
 mod print;
 mod reply;
+mod run;
+mod store;
 mod words;
 
 pub use command::alone;
