@@ -6,3 +6,4 @@ pub mod FirstVerdicts
 pub mod FirstRuns
 pub mod NamedLines
 pub mod StoreText
+pub mod Replying

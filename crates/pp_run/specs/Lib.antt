@@ -2,3 +2,4 @@ pub mod Endings
 pub mod RunStores
 pub mod RunPlaces
 pub mod RunOutcomes
+pub mod Answered

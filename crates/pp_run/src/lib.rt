@@ -1,6 +1,7 @@
 //! The top call of the program: words, a text from a source, and the answer to a sink.
 #![tactic(auto)]
 
+mod answer;
 mod command;
 mod print;
 mod reply;
