@@ -9,3 +9,4 @@ pub mod Meet
 pub mod Operations
 pub mod Without
 pub mod Union
+pub mod Equal

@@ -4,6 +4,7 @@ use Rattle.std.specs.FinSet as set
 use Rattle.std.specs.Ordering.{int_cmp}
 use Rattle.pp_domain.specs.Intervals.{IsDomain, integers}
 
+-- a finite set of integers
 abbrev pub Integers : Type 0
 Integers = set.FinSet int_cmp
 
@@ -11,7 +12,7 @@ Integers = set.FinSet int_cmp
 unfoldable pub set_of : List (ℤ × ℤ) → Integers
 set_of ps = set.from_list (integers ps)
 
--- the domain of a set: by `sets_tell_domains` there is one at most
+-- ps is the domain of the set s: no other list is, since equal sets have equal lists
 abbrev pub IsDomainOf : List (ℤ × ℤ) → Integers → Type 0
 IsDomainOf ps s = IsDomain ps × (set_of ps ≡ s)
 

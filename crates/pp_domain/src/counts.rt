@@ -12,6 +12,7 @@ fn count_of(low: i64, high: i64) -> u64
     (high - low + 1) as u64
 }
 
+// How many integers lie in the intervals.
 pub fn total(intervals: &[(i64, i64)]) -> u64
     requires { IsDomain intervals.now }
     ensures { result ≡ length (integers intervals.now) }
@@ -23,6 +24,7 @@ pub fn total(intervals: &[(i64, i64)]) -> u64
     total
 }
 
+// The integer at `place` in ascending order, from 0.
 pub fn nth_of(intervals: &[(i64, i64)], place: u64) -> Option<i64>
     requires { IsDomain intervals.now }
     ensures { result ≡ slice_get (integers intervals.now) place }

@@ -2,6 +2,8 @@
 ghost use Rattle.std.specs.Prelude.{◌≡◌, ℕ, ℤ, ◌∷◌, [], ◌<ℤ◌, ◌≤◌, ◌↔◌, IsTrue, length, IfOk, IfSome, IsNone, MatchOption, slice_get};
 ghost use Rattle.std.specs.FinSet as set;
 ghost use Rattle.std.specs.Ordering.{int_cmp};
+ghost use Rattle.std.specs.Cmp.{partial_equiv_from_equiv};
+ghost use Rattle.pp_domain.specs.Equality.{same_intervals, same_intervals_equiv};
 ghost use Rattle.pp_domain.specs.Intervals.{IsInteger, IsDomain, IsApartInside, integers};
 ghost use Rattle.pp_domain.specs.Sets.{set_of, IsDomainOf, IsDomainOrNone, IsNth};
 
@@ -33,6 +35,20 @@ impl Model for Domain {
     ghost view = { λ d. d.intervals.items };
 
     ghost invariant = { λ d. IsDomain d.intervals.items };
+}
+
+impl PartialEq for Domain {
+    ghost eq = { same_intervals };
+
+    ghost laws = { partial_equiv_from_equiv same_intervals_equiv };
+
+    fn eq(&self, other: &Domain) -> bool {
+        self.intervals.as_slice() == other.intervals.as_slice()
+    }
+}
+
+impl Eq for Domain {
+    ghost laws = { same_intervals_equiv };
 }
 
 impl Domain {
@@ -92,7 +108,7 @@ impl Domain {
     pub fn same(&self, other: &Domain) -> bool
         ensures { IsTrue result ↔ (self.now ≡ other.now) }
     {
-        self.intervals.as_slice() == other.intervals.as_slice()
+        self == other
     }
 
     /// The members of both, or None where there are none.

@@ -6,7 +6,8 @@ ghost use Rattle.pp_domain.specs.Merging.{IsNext};
 
 use std::alloc::{AllocError, Global};
 
-// Takes the intervals of both by where they begin, and holds the last one back as long as it may grow.
+// Takes the intervals of both by where they begin, and holds the last one back as long as it may grow. It begins
+// with the first integer of both, which its own interval then takes in.
 pub fn joined(
     alloc: Global,
     a: &[(i64, i64)],

@@ -2,6 +2,7 @@
 ghost use Rattle.std.specs.Prelude.{◌≡◌, ℕ, ℤ, List, [], ◌∷◌, Some, ◌↔◌, IsTrue, length, slice_get};
 ghost use Rattle.std.specs.FinSet as set;
 ghost use Rattle.std.specs.Ordering.{int_cmp};
+ghost use Rattle.pp_domain.specs.Equality.{same_intervals};
 ghost use Rattle.pp_domain.specs.Intervals.{IsDomain, Lies, integers};
 ghost use Rattle.pp_domain.specs.Sets.{set_of, IsNth};
 
@@ -33,4 +34,9 @@ pub fn places_agree()
 /// The interval of one integer has that one alone.
 pub fn one_value_alone()
     ensures { (v : ℤ) → set_of ((v, v) ∷ []) ≡ set.from_list (v ∷ []) }
+{}
+
+/// `==` of two domains is true exactly where their lists are equal.
+pub fn equality_tells()
+    ensures { (ps qs : List (ℤ × ℤ)) → IsTrue (same_intervals ps qs) ↔ (ps ≡ qs) }
 {}

@@ -82,6 +82,7 @@ fn members_and_parts_are_told(rt: HostRuntime) -> Result<(), Fail> {
     assert!(rt; holed.has(3) && !holed.has(4) && holed.has(9) && !holed.has(10));
     assert!(rt; holed.inside(&all) && !all.inside(&holed));
     let copied = holed.copy()?;
-    assert!(rt; copied.same(&holed) && !copied.same(&all));
+    assert!(rt; copied.same(&holed) && copied == holed);
+    assert!(rt; !copied.same(&all) && copied != all);
     Ok(())
 }
