@@ -7,3 +7,4 @@ pub mod Integers
 pub mod Marks
 pub mod Places
 pub mod Collected
+pub mod Spans

@@ -1,8 +1,11 @@
 //! The scan of a text.
-ghost use Rattle.std.specs.Prelude.{◌≤◌, List, [], ◌∷◌, ◌++◌, length, IfOk, OnOk};
+ghost use Rattle.std.specs.Prelude.{◌≤◌, List, [], ◌∷◌, ◌++◌, length, All, IfOk, OnOk};
+ghost use Rattle.std.specs.List.{flat_map};
 ghost use Rattle.pp_language.specs.declared.token.Token.{Token};
+ghost use Rattle.pp_language.specs.Tokens.{IsTokenOf};
 ghost use Rattle.pp_language.specs.Sentences.{FallInto, AreSentences};
 ghost use Rattle.pp_lex.specs.Readings.{ending_of, tokens_of, IsItem};
+ghost use Rattle.pp_lex.specs.Spans.{AreSpans};
 
 use crate::front::front;
 use crate::gap::measure_gap;
@@ -64,6 +67,8 @@ fn add(
 pub fn sentences(alloc: Global, bytes: &[u8]) -> Result<Sentences, AllocError>
     requires { length bytes.now ≤ 4194304 }
     ensures exact { IfOk result (λ s. AreSentences bytes.now (tokens_of s.list) (ending_of s.tail)) }
+    ensures tokens { IfOk result (λ s. All (λ u. All (IsTokenOf bytes.now) u.tokens) s.list) }
+    ensures ascending { IfOk result (λ s. AreSpans 0 (flat_map (λ u. u.tokens) s.list) (length bytes.now)) }
 {
     let mut list = Vec::new(alloc);
     let mut tokens = Vec::new(alloc);
