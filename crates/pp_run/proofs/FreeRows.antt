@@ -3,12 +3,12 @@ use Rattle.std.proofs.Common.{◌≡◌, ℕ, zero, suc, ◌+◌, ◌-◌, ◌<�
 use Rattle.std.specs.Prelude.{cond, nat_eq, nat_lt}
 use Rattle.std.proofs.lemmas.Bool.{cond_below, cond_above}
 use Rattle.pp_algebra.specs.Terms.{Tree, Trees, variable, put, put_all, variables_all}
-use Rattle.pp_algebra.specs.Rows.{Domain, Domains, Pattern, Row, domain_at, pattern_of, IsNumbered, IsCanonical, IsWide, IsRow}
+use Rattle.pp_algebra.specs.Rows.{Domain, Domains, Pattern, Row, domain_at, IsNumbered, IsWide}
 use Rattle.pp_algebra.specs.Covers.{IsIn, Covers}
 use Rattle.pp_algebra.specs.Canon.{has, place, firsts, canon}
 use Rattle.pp_algebra.specs.Solve.{IsSolved}
 use Rattle.pp_algebra.proofs.Bools.{nat_same, nat_is}
-use Rattle.pp_algebra.proofs.Put.{put-put, put_all-put_all, put_all-variable}
+use Rattle.pp_algebra.proofs.Put.{put-put, put_all-put_all}
 use Rattle.pp_algebra.proofs.Order.{covers_through}
 use Rattle.pp_algebra.proofs.Antisym.{put-agree, put_all-agree, covers_antisymmetric}
 use Rattle.pp_algebra.proofs.CanonLemmas.{IsSame, nat_eq-IsSame, canon-IsCanonical, canon-covers, covers-canon}

@@ -92,3 +92,6 @@ pub(crate) fn run(
     }
     Ok(Outcome { end: End::Stopped, store, turns })
 }
+
+#[cfg(test)]
+mod tests;

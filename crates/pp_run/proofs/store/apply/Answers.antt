@@ -1,13 +1,12 @@
-use Rattle.std.proofs.Common.{◌≡◌, ◌+◌, ◌<◌, ◌≤◌, length, map, take, arith, ap, sym, ◌∙◌, subst, refl}
+use Rattle.std.proofs.Common.{◌≡◌, ◌+◌, ◌<◌, ◌≤◌, length, map, arith, ap, sym, ◌∙◌, subst, refl}
 use Rattle.std.proofs.lemmas.List.{take_all}
 use Rattle.std.proofs.lemmas.Result.{IfOk-weaker}
 use Rattle.pp_algebra.specs.Terms.{put, count, variables_all}
 use Rattle.pp_algebra.specs.Covers.{IsIn}
-use Rattle.pp_sld.specs.Goals.{Goal, equals}
 use Rattle.pp_propagation.specs.Stores.{face_variables}
-use Rattle.pp_term.specs.Columns.{trees_of, any_domains}
+use Rattle.pp_term.specs.Columns.{any_domains}
 use Rattle.pp_run.specs.RunPlaces.{ArePlaces, put_by}
-use Rattle.pp_run.proofs.Columns.{IsIn-columns, count-trees_of, map_next, places_within}
+use Rattle.pp_run.proofs.Columns.{IsIn-columns, count-trees_of, places_within}
 use Rattle.pp_run.proofs.FreeRows.{numbered_below, apply_now, goal_with}
 use Rattle.pp_run.proofs.store.apply.Goals as goal
 
