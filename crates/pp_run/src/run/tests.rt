@@ -127,9 +127,17 @@ fn a_goal_without_arguments_changes_nothing(rt: HostRuntime) -> Result<(), Fail>
         vars: 0,
     };
     facts.push(fact).map_err(|_| AllocError)?;
-    let outcome = run(rt.alloc(), facts.as_slice(), pred, [].as_slice(), 0, 10)?;
+    let arguments = Vec::new(rt.alloc());
+    let outcome = run(
+        rt.alloc(),
+        facts.as_slice(),
+        pred,
+        arguments.as_slice(),
+        0,
+        10,
+    )?;
     assert!(rt; outcome.end == End::Yes);
-    assert!(rt; is_row(&outcome.store, [].as_slice()));
+    assert!(rt; outcome.store.columns().is_empty());
     assert_eq!(rt; outcome.turns, 1);
     Ok(())
 }

@@ -40,5 +40,5 @@ returns c =
     let terms = c.loop-column.invariant ∙ ap (map (put (put_by c.in_ok-places.places.items c.args.given.now.columns c.variables-first.result))) (take_all c.loop-column.column-index c.columns-columns.result.now c.loop-column-test.false) in
     IfOk-weaker c.canon.result _ _ (λ r e g f.
     e ∙ apply_now c.args.store.now c.args.given.now n c.variables.result c.columns-columns.result.now c.loop-column.terms.items c.in_ok-places.places.items g c.columns-columns.ensures.row.canonical
-        (c.variables-first.ensures.any ∙ ap any_domains first) c.variables.ensures.any c.columns-columns.ensures.columns (c.in_ok-places.ensures g f)
-        (terms ∙ ap (λ m. map (put (put_by c.in_ok-places.places.items c.args.given.now.columns m)) c.columns-columns.result.now) first)) c.canon.ensures
+    (c.variables-first.ensures.any ∙ ap any_domains first) c.variables.ensures.any c.columns-columns.ensures.columns (c.in_ok-places.ensures g f)
+    (terms ∙ ap (λ m. map (put (put_by c.in_ok-places.places.items c.args.given.now.columns m)) c.columns-columns.result.now) first)) c.canon.ensures
