@@ -1,13 +1,12 @@
 -- Lists of terms as columns, and the table of the places of a face's variables.
-use Rattle.std.proofs.Common.{◌≡◌, ℕ, zero, suc, ◌+◌, ◌<◌, ◌≤◌, true, false, Bool, List, [], ◌∷◌, ◌++◌, map, take, drop, length, append-nil, get_or, set, Option, Some, None, refl, ap, sym, ◌∙◌, subst, inl, inr, arith, replicate}
+use Rattle.std.proofs.Common.{◌≡◌, ℕ, zero, suc, ◌+◌, ◌<◌, true, false, Bool, List, [], ◌∷◌, ◌++◌, map, take, drop, length, append-nil, get_or, set, Option, Some, None, refl, ap, sym, ◌∙◌, subst, inl, inr, arith, replicate}
 use Rattle.std.specs.Prelude.{cond, ◌||◌, nat_eq, ltb}
 use Rattle.std.proofs.lemmas.List.{take_more, map_push, get_or-set_same, get_or-set_other, length-set, get_or_past, length_push, length-replicate, get_or-replicate, drop_all, take_all}
 use Rattle.std.proofs.lemmas.Bool.{cases_eq, ltb-true, ltb-false}
-use Rattle.pp_algebra.specs.Terms.{Tree, int, node, variable, Trees, none, more, count, put, put_all, variables, variables_all}
+use Rattle.pp_algebra.specs.Terms.{Tree, int, node, variable, Trees, count, put, put_all, variables, variables_all}
 use Rattle.pp_algebra.specs.Covers.{IsIn}
 use Rattle.pp_algebra.specs.Canon.{has, place, firsts}
 use Rattle.pp_algebra.proofs.Bools.{nat_same, nat_is}
-use Rattle.pp_algebra.proofs.Put.{put-put, put_all-put_all}
 use Rattle.pp_algebra.proofs.Order.{IsIn-left, IsIn-right}
 use Rattle.pp_propagation.specs.Stores.{column}
 use Rattle.pp_term.specs.Columns.{trees_of}

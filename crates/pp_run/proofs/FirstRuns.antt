@@ -1,10 +1,10 @@
 -- Between two turns of a query of one goal with `most`, and what a turn makes of it.
-use Rattle.std.proofs.Common.{◌≡◌, ℕ, zero, suc, ◌+◌, ◌<◌, ◌≤◌, true, false, Bool, List, [], ◌∷◌, length, map, refl, ap, sym, ◌∙◌, subst, inl, inr, arith}
+use Rattle.std.proofs.Common.{◌≡◌, ℕ, zero, suc, ◌+◌, ◌<◌, true, List, [], ◌∷◌, length, refl, ap, sym, ◌∙◌, subst, inr, arith}
 use Rattle.std.specs.Prelude.{cond, not, ◌&&◌, nat_eq}
 use Rattle.std.proofs.Math.ListN.{length-map}
-use Rattle.pp_algebra.specs.Terms.{Tree, count, variable, variables_all}
+use Rattle.pp_algebra.specs.Terms.{Tree, count, variable}
 use Rattle.pp_algebra.specs.Rows.{Row, domain_at}
-use Rattle.pp_algebra.specs.Canon.{firsts, place, same_row}
+use Rattle.pp_algebra.specs.Canon.{place}
 use Rattle.pp_algebra.specs.Solve.{IsSolved}
 use Rattle.pp_algebra.proofs.Put.{count-put_all}
 use Rattle.pp_sld.specs.Goals.{Predicate, Goal, Program}
@@ -12,9 +12,9 @@ use Rattle.pp_sld.specs.Leaves.{variables_from}
 use Rattle.pp_sld.specs.Verdicts.{Verdict, fail, same, narrow}
 use Rattle.pp_language.specs.Texts.{Text}
 use Rattle.pp_language.specs.Programs.{Query}
-use Rattle.pp_propagation.specs.Stores.{Asked, goals_of, column, arguments_under, face, face_variables, same_either, replaced_by, apply}
+use Rattle.pp_propagation.specs.Stores.{Asked, goals_of, column, arguments_under, face, face_variables, replaced_by, apply}
 use Rattle.pp_propagation.specs.Turns.{HasVerdict, State, without, woken, narrowed, passed_by}
-use Rattle.pp_propagation.specs.Runs.{End, yes, no, stopped, Run, ended, failed, GoesOn, RunsWith, opening, IsRun}
+use Rattle.pp_propagation.specs.Runs.{yes, no, stopped, Run, ended, failed, GoesOn, RunsWith, opening, IsRun}
 use Rattle.pp_run.specs.RunOutcomes.{asked, query_by, Ran}
 use Rattle.pp_run.proofs.FreeRows.{free}
 use Rattle.pp_run.proofs.FirstVerdicts.{not_same, is_same}

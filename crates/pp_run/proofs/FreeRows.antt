@@ -3,12 +3,12 @@ use Rattle.std.proofs.Common.{◌≡◌, ℕ, zero, suc, ◌+◌, ◌-◌, ◌<�
 use Rattle.std.specs.Prelude.{cond, nat_eq, nat_lt}
 use Rattle.std.proofs.lemmas.Bool.{cond_below, cond_above}
 use Rattle.pp_algebra.specs.Terms.{Tree, Trees, variable, put, put_all, variables_all}
-use Rattle.pp_algebra.specs.Rows.{Domain, Domains, Pattern, Row, domain_at, pattern_of, IsNumbered, IsCanonical, IsWide, IsRow}
+use Rattle.pp_algebra.specs.Rows.{Domain, Domains, Pattern, Row, domain_at, IsNumbered, IsWide}
 use Rattle.pp_algebra.specs.Covers.{IsIn, Covers}
 use Rattle.pp_algebra.specs.Canon.{has, place, firsts, canon}
 use Rattle.pp_algebra.specs.Solve.{IsSolved}
 use Rattle.pp_algebra.proofs.Bools.{nat_same, nat_is}
-use Rattle.pp_algebra.proofs.Put.{put-put, put_all-put_all, put_all-variable}
+use Rattle.pp_algebra.proofs.Put.{put-put, put_all-put_all}
 use Rattle.pp_algebra.proofs.Order.{covers_through}
 use Rattle.pp_algebra.proofs.Antisym.{put-agree, put_all-agree, covers_antisymmetric}
 use Rattle.pp_algebra.proofs.CanonLemmas.{IsSame, nat_eq-IsSame, canon-IsCanonical, canon-covers, covers-canon}
@@ -114,9 +114,9 @@ taken_back : (n : ℕ) (given : Row) (vs : List ℕ) (v : ℕ) → v < n → put
 taken_back n given vs v h =
     elim (has nat_eq vs v) as (λ b. put (λ k. variable (kind n k)) (put (λ x. variable (number n x)) (cond b (put (λ w. variable (inr w)) (column given.columns (place nat_eq vs v))) (variable (inl v)))) ≡ cond b (put (λ w. variable (inr w)) (column given.columns (place nat_eq vs v))) (variable (inl v))) [
       | true ↦ (let t = column given.columns (place nat_eq vs v) in
-      ap (put (λ k. variable (kind n k))) (put-put (λ x. variable (number n x)) (λ w. variable (inr w)) t)
-      ∙ put-put (λ k. variable (kind n k)) (λ w. variable (n + w)) t
-      ∙ put-agree (λ w. variable (kind n (n + w))) (λ w. variable (inr w)) t (λ w i. ap variable (kind-new n w)))
+          ap (put (λ k. variable (kind n k))) (put-put (λ x. variable (number n x)) (λ w. variable (inr w)) t)
+          ∙ put-put (λ k. variable (kind n k)) (λ w. variable (n + w)) t
+          ∙ put-agree (λ w. variable (kind n (n + w))) (λ w. variable (inr w)) t (λ w i. ap variable (kind-new n w)))
       | false ↦ ap variable (kind-old n v h)
     ]
 
@@ -159,10 +159,10 @@ pub apply_now : (store given : Row) (n m : ℕ) (columns terms : List (Tree ℕ)
     → trees_of columns ≡ store.columns → ArePlaces n (face_variables store g) places → terms ≡ map (put (put_by places given.columns n)) columns → canon nat_eq (free_pattern terms) ≡ apply store g given
 apply_now store given n m columns terms places g c d e f h t =
     ap (λ ts. canon nat_eq (free ts)) (
-      ap trees_of t
-      ∙ sym (put-trees_of (put_by places given.columns n) columns)
-      ∙ ap (put_all (put_by places given.columns n)) f
-      ∙ put_all-agree (put_by places given.columns n) (renumbered n given (face_variables store g)) store.columns (λ v i. placed_as n given (face_variables store g) places v (numbered_below (variables_all store.columns) 0 n v c i) h))
+    ap trees_of t
+    ∙ sym (put-trees_of (put_by places given.columns n) columns)
+    ∙ ap (put_all (put_by places given.columns n)) f
+    ∙ put_all-agree (put_by places given.columns n) (renumbered n given (face_variables store g)) store.columns (λ v i. placed_as n given (face_variables store g) places v (numbered_below (variables_all store.columns) 0 n v c i) h))
     ∙ apply_free store given n m g c d e
 
 -- some goal of these arguments

@@ -79,16 +79,35 @@ pub(crate) fn run(
     let mut under = face(alloc, &store, arguments)?;
     for turn in 0..turns {
         let given = match infer(alloc, facts, pred, &under)? {
-            Verdict::Fail => return Ok(Outcome { end: End::No, store, turns: turn + 1 }),
-            Verdict::Same => return Ok(Outcome { end: End::Yes, store, turns: turn + 1 }),
+            Verdict::Fail => return Ok(Outcome {
+                end: End::No,
+                store,
+                turns: turn + 1,
+            }),
+            Verdict::Same => return Ok(Outcome {
+                end: End::Yes,
+                store,
+                turns: turn + 1,
+            }),
             Verdict::Narrow(given) => given,
         };
         store = apply(alloc, &store, arguments, &given)?;
         let narrowed = face(alloc, &store, arguments)?;
         if narrowed.same(&under) {
-            return Ok(Outcome { end: End::Yes, store, turns: turn + 1 });
+            return Ok(Outcome {
+                end: End::Yes,
+                store,
+                turns: turn + 1,
+            });
         }
         under = narrowed;
     }
-    Ok(Outcome { end: End::Stopped, store, turns })
+    Ok(Outcome {
+        end: End::Stopped,
+        store,
+        turns,
+    })
 }
+
+#[cfg(test)]
+mod tests;

@@ -1,8 +1,7 @@
-use Rattle.std.proofs.Common.{◌≡◌, ◌+◌, ◌<◌, ◌≤◌, length, true, arith, ap, sym, ◌∙◌, subst, refl}
+use Rattle.std.proofs.Common.{◌≡◌, ◌<◌, length, true, arith, ap, sym, ◌∙◌, subst, refl}
 use Rattle.pp_algebra.specs.Terms.{count}
 use Rattle.pp_sld.specs.Verdicts.{fail, same, narrow}
-use Rattle.pp_propagation.specs.Stores.{face, face_variables, apply}
-use Rattle.pp_propagation.specs.Turns.{HasVerdict}
+use Rattle.pp_propagation.specs.Stores.{face_variables}
 use Rattle.pp_propagation.specs.Runs.{stopped}
 use Rattle.pp_propagation.specs.Replies.{run_depth}
 use Rattle.pp_term.specs.Predicates.{predicate_of}

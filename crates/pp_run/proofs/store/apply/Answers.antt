@@ -1,13 +1,12 @@
-use Rattle.std.proofs.Common.{◌≡◌, ◌+◌, ◌<◌, ◌≤◌, length, map, take, arith, ap, sym, ◌∙◌, subst, refl}
+use Rattle.std.proofs.Common.{◌≡◌, ◌+◌, ◌<◌, ◌≤◌, length, map, arith, ap, sym, ◌∙◌, subst, refl}
 use Rattle.std.proofs.lemmas.List.{take_all}
 use Rattle.std.proofs.lemmas.Result.{IfOk-weaker}
 use Rattle.pp_algebra.specs.Terms.{put, count, variables_all}
 use Rattle.pp_algebra.specs.Covers.{IsIn}
-use Rattle.pp_sld.specs.Goals.{Goal, equals}
 use Rattle.pp_propagation.specs.Stores.{face_variables}
-use Rattle.pp_term.specs.Columns.{trees_of, any_domains}
+use Rattle.pp_term.specs.Columns.{any_domains}
 use Rattle.pp_run.specs.RunPlaces.{ArePlaces, put_by}
-use Rattle.pp_run.proofs.Columns.{IsIn-columns, count-trees_of, map_next, places_within}
+use Rattle.pp_run.proofs.Columns.{IsIn-columns, count-trees_of, places_within}
 use Rattle.pp_run.proofs.FreeRows.{numbered_below, apply_now, goal_with}
 use Rattle.pp_run.proofs.store.apply.Goals as goal
 
@@ -41,5 +40,5 @@ returns c =
     let terms = c.loop-column.invariant ∙ ap (map (put (put_by c.in_ok-places.places.items c.args.given.now.columns c.variables-first.result))) (take_all c.loop-column.column-index c.columns-columns.result.now c.loop-column-test.false) in
     IfOk-weaker c.canon.result _ _ (λ r e g f.
     e ∙ apply_now c.args.store.now c.args.given.now n c.variables.result c.columns-columns.result.now c.loop-column.terms.items c.in_ok-places.places.items g c.columns-columns.ensures.row.canonical
-        (c.variables-first.ensures.any ∙ ap any_domains first) c.variables.ensures.any c.columns-columns.ensures.columns (c.in_ok-places.ensures g f)
-        (terms ∙ ap (λ m. map (put (put_by c.in_ok-places.places.items c.args.given.now.columns m)) c.columns-columns.result.now) first)) c.canon.ensures
+    (c.variables-first.ensures.any ∙ ap any_domains first) c.variables.ensures.any c.columns-columns.ensures.columns (c.in_ok-places.ensures g f)
+    (terms ∙ ap (λ m. map (put (put_by c.in_ok-places.places.items c.args.given.now.columns m)) c.columns-columns.result.now) first)) c.canon.ensures

@@ -1,5 +1,4 @@
 use Rattle.std.proofs.Common.{◌≡◌, ◌<◌, length, IfOk, subst}
-use Rattle.pp_algebra.specs.Terms.{put}
 use Rattle.pp_run.proofs.Columns.{IsIn-columns, put_placed, placed_within}
 use Rattle.pp_run.proofs.store.replaced.Goals as goal
 
