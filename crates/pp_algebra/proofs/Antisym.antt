@@ -90,14 +90,14 @@ flat_map-map : (f : ℕ → Tree ℕ) (g : ℕ → ℕ) (vs : List ℕ) → ((v 
 flat_map-map f g [] h = refl
 flat_map-map f g (x ∷ vs) h = rw (h x (inl refl), flat_map-map f g vs (λ v i. h v (inr i))) refl
 
-same_domain : (d e : Domain) → ((n : ℤ) → set.contains e n ≡ true → set.contains d n ≡ true) → ((n : ℤ) → set.contains d n ≡ true → set.contains e n ≡ true) → d ≡ e
-same_domain d e h k = set.same_set int_cmp_total set.int_cmp-IsAntisymmetric d e (λ n. same_bool _ _ (k n) (h n))
+pub same_set : (d e : Domain) → ((n : ℤ) → set.contains e n ≡ true → set.contains d n ≡ true) → ((n : ℤ) → set.contains d n ≡ true → set.contains e n ≡ true) → d ≡ e
+same_set d e h k = set.same_set int_cmp_total set.int_cmp-IsAntisymmetric d e (λ n. same_bool _ _ (k n) (h n))
 
 same_domains : (ds es : Domains ℕ) (v : ℕ) (d e : Option Domain) → ds v ≡ d → es v ≡ e → MayGo es d (variable v) → MayGo ds e (variable v) → d ≡ e
 same_domains ds es v None None p q h k = refl
 same_domains ds es v None (Some e) p q h k = absurd (rw p at k)
 same_domains ds es v (Some d) None p q h k = absurd (rw q at h)
-same_domains ds es v (Some d) (Some e) p q h k = ap Some (same_domain d e (rw q at h) (rw p at k))
+same_domains ds es v (Some d) (Some e) p q h k = ap Some (same_set d e (rw q at h) (rw p at k))
 
 same_lists : (ds es : List (Option Domain)) → length ds ≡ length es → ((v : ℕ) → v < length ds → domain_at ds v ≡ domain_at es v) → ds ≡ es
 same_lists [] [] h k = refl
@@ -105,7 +105,7 @@ same_lists [] (e ∷ es) h k = absurd (omega arith)
 same_lists (d ∷ ds) [] h k = absurd (omega arith)
 same_lists (d ∷ ds) (e ∷ es) h k = rw (k 0 (omega arith), same_lists ds es (omega arith) (λ v l. k (suc v) (omega arith))) refl
 
-abbrev row_of : Trees ℕ → List (Option Domain) → Row
+abbrev pub row_of : Trees ℕ → List (Option Domain) → Row
 row_of c d = record { columns = c; domains = d }
 
 pub covers_antisymmetric : (r q : Row) → IsCanonical r → IsCanonical q → Covers (pattern_of r) (pattern_of q) → Covers (pattern_of q) (pattern_of r) → r ≡ q

@@ -23,7 +23,7 @@ mutual
   same_tree-itself (node f ts) = both_true _ _ (nat_same f) (same_trees-itself ts)
   same_tree-itself (variable v) = nat_same v
 
-  same_trees-itself : (ts : Trees ℕ) → same_trees ts ts ≡ true
+  pub same_trees-itself : (ts : Trees ℕ) → same_trees ts ts ≡ true
   same_trees-itself none = refl
   same_trees-itself (more t ts) = both_true _ _ (same_tree-itself t) (same_trees-itself ts)
 
@@ -39,7 +39,7 @@ mutual
   same_tree-is (variable v) (node g us) h = absurd (cc)
   same_tree-is (variable v) (variable w) h = ap variable (nat_is v w h)
 
-  same_trees-is : (ts us : Trees ℕ) → same_trees ts us ≡ true → ts ≡ us
+  pub same_trees-is : (ts us : Trees ℕ) → same_trees ts us ≡ true → ts ≡ us
   same_trees-is none none h = refl
   same_trees-is none (more u us) h = absurd (cc)
   same_trees-is (more t ts) none h = absurd (cc)

@@ -1,5 +1,5 @@
 -- The least generalisation of rows, and the law of joins.
-use Rattle.std.proofs.Common.{◌≡◌, ℕ, suc, ◌<◌, List, [], ◌∷◌, ◌++◌, map, length, get_or, refl, ap, sym, ◌∙◌, subst, inl, inr, arith}
+use Rattle.std.proofs.Common.{◌≡◌, ℕ, suc, ◌<◌, List, [], ◌∷◌, map, length, get_or, refl, ap, sym, ◌∙◌, subst, inl, inr, arith}
 use Rattle.std.proofs.Math.ListN.{length-map}
 use Rattle.pp_algebra.specs.Terms.{count}
 use Rattle.pp_algebra.specs.Covers.{IsIn, Covers}
@@ -9,6 +9,7 @@ use Rattle.pp_algebra.specs.Least.{least}
 use Rattle.pp_algebra.specs.Canon.{same_list}
 use Rattle.pp_algebra.specs.Least.{least_row}
 use Rattle.pp_algebra.specs.Rows.{Pattern}
+use Rattle.pp_algebra.specs.Joins.{Joins, one, two, rows_of, joined, AllOf}
 use Rattle.pp_algebra.specs.Solve.{Item, IsSolved}
 use Rattle.pp_algebra.proofs.Put.{count-put_all}
 use Rattle.pp_algebra.proofs.Order.{covers_itself, covers_through, IsIn-left, IsIn-right}
@@ -40,40 +41,23 @@ covers_all s (r ∷ rs) h = (h r (inl refl), covers_all s rs (λ q i. h q (inr i
 pub least_row-least : (r : Row) (rs : List Row) (s : Row) → ((q : Row) → IsIn q (r ∷ rs) → RowCovers s q) → RowCovers s (least_row r rs)
 least_row-least r rs s h = covers_through _ _ _ (covers_least (pattern_of s) (pattern_of r) (map pattern_of rs) (covers_all s (r ∷ rs) h)) (covers-canon same_list same_list-IsSame (least (pattern_of r) (map pattern_of rs)))
 
--- joins of two at a time, in any grouping
-pub data Joins : Type 0 where
-  one : Row → Joins
-  two : Joins → Joins → Joins
-
-abbrev pub rows_of : Joins → List Row
-rows_of (one r) = r ∷ []
-rows_of (two a b) = rows_of a ++ rows_of b
-
-abbrev pub joined : Joins → Row
-joined (one r) = r
-joined (two a b) = least_row (joined a) (joined b ∷ [])
-
-count-covers : (r q : Row) → RowCovers r q → count r.columns ≡ count q.columns
+pub count-covers : (r q : Row) → RowCovers r q → count r.columns ≡ count q.columns
 count-covers r q c = sym (count-put_all c.by r.columns) ∙ ap count c.columns
 
-joined-least : (j : Joins) (s : Row) → ((q : Row) → IsIn q (rows_of j) → RowCovers s q) → RowCovers s (joined j)
+pub joined-least : (j : Joins) (s : Row) → ((q : Row) → IsIn q (rows_of j) → RowCovers s q) → RowCovers s (joined j)
 joined-least (one r) s h = h r (inl refl)
 joined-least (two a b) s h =
     let left = joined-least a s (λ q i. h q (IsIn-left q (rows_of a) (rows_of b) i)) in
     let right = joined-least b s (λ q i. h q (IsIn-right q (rows_of a) (rows_of b) i)) in
     least_row-least (joined a) (joined b ∷ []) s (λ q i. elim i [ inl e ↦ subst (RowCovers s) e left | inr k ↦ elim k [ inl e ↦ subst (RowCovers s) e right | inr f ↦ absurd f ] ])
 
--- rows of so many columns
-abbrev pub AllOf : ℕ → List Row → Type 0
-AllOf n rs = (q : Row) → IsIn q rs → IsCanonical q × (count q.columns ≡ n)
-
-joined-counts : (n : ℕ) (j : Joins) → AllOf n (rows_of j) → IsCanonical (joined j) × (count (joined j).columns ≡ n)
+pub joined-counts : (n : ℕ) (j : Joins) → AllOf n (rows_of j) → IsCanonical (joined j) × (count (joined j).columns ≡ n)
 joined-counts n (one r) h = h r (inl refl)
 joined-counts n (two a b) h =
     let left = joined-counts n a (λ q i. h q (IsIn-left q (rows_of a) (rows_of b) i)) in
     (least_row-IsCanonical (joined a) (joined b ∷ []), count-covers _ _ (least_row-covers (joined a) (joined b ∷ []) (joined a) (inl refl) refl) ∙ left.1)
 
-joined-covers : (n : ℕ) (j : Joins) → AllOf n (rows_of j) → (q : Row) → IsIn q (rows_of j) → RowCovers (joined j) q
+pub joined-covers : (n : ℕ) (j : Joins) → AllOf n (rows_of j) → (q : Row) → IsIn q (rows_of j) → RowCovers (joined j) q
 joined-covers n (one r) h q i = elim i [ inl e ↦ subst (RowCovers r) e (covers_itself (pattern_of r)) | inr f ↦ absurd f ]
 joined-covers n (two a b) h q i =
     let ha = λ (p : Row) (k : IsIn p (rows_of a)). h p (IsIn-left p (rows_of a) (rows_of b) k) in
@@ -94,4 +78,3 @@ joins_law n r rs j h to from =
 -- a problem has at most one most general row
 pub solved_once : {V : Type 0} (p : Pattern V) (items : List (Item V)) (r q : Row) → IsSolved p items r → IsSolved p items q → r ≡ q
 solved_once p items r q h k = covers_antisymmetric r q h.row.canonical k.row.canonical (h.most q k.row k.meets) (k.most r h.row h.meets)
-

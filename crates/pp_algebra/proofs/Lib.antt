@@ -7,6 +7,7 @@ pub mod LeastOfAll
 pub mod Antisym
 pub mod CanonLemmas
 pub mod Law
+pub mod Sets
 pub mod OneCanon
 pub mod Member
 pub mod SetKinds
@@ -14,5 +15,9 @@ pub mod Solution
 pub mod Eliminated
 pub mod Steps
 pub mod Solved
+pub mod AlwaysSolved
 pub mod Resume
 pub mod Restrict
+pub mod Solving
+pub mod SameRow
+pub mod Worked

@@ -6,6 +6,8 @@ use Rattle.pp_algebra.specs.Covers.{IsIn, MayGo, Covers}
 use Rattle.pp_algebra.specs.Solve.{Item, equation, membership, AllHold, Meets, IsSolved, HasNone}
 use Rattle.pp_algebra.specs.Rows.{IsRow}
 use Rattle.pp_algebra.specs.Solve.{put_item}
+pub use Rattle.pp_algebra.specs.Stages.{pattern, with_fresh, kept, moved}
+use Rattle.pp_algebra.specs.Stages.{ColumnsSpeakOf, TermSpeaksOf, ItemsSpeakOf}
 use Rattle.pp_algebra.proofs.Put.{put-put, put_all-put_all}
 use Rattle.std.specs.Prelude.{ℤ, pos, cond, nat_eq, All}
 use Rattle.std.specs.FinSet as set
@@ -49,21 +51,6 @@ pub beyond : (ds : List (Option Domain)) (v : ℕ) → length ds ≤ v → domai
 beyond [] v h = refl
 beyond (d ∷ ds) zero h = absurd (omega arith)
 beyond (d ∷ ds) (suc v) h = beyond ds v (omega arith)
-
-abbrev pub with_fresh : {U : Type 0} (W : Type 0) → Domains U → Domains (U ⊎ W)
-with_fresh W ds (inl u) = ds u
-with_fresh W ds (inr w) = None
-
-abbrev pub kept : {U : Type 0} (W : Type 0) → U → Tree (U ⊎ W)
-kept W u = variable (inl u)
-
--- a variable is the row's term for it, and a fresh one stays
-abbrev pub moved : {U : Type 0} (W : Type 0) → (U → Tree ℕ) → U ⊎ W → Tree (ℕ ⊎ W)
-moved W s (inl u) = put (kept W) (s u)
-moved W s (inr w) = variable (inr w)
-
-abbrev pub pattern : {V : Type 0} → Trees V → Domains V → Pattern V
-pattern ts ds = record { columns = ts; domains = ds }
 
 holds-append : {V : Type 0} (ds : Domains ℕ) (s : V → Tree ℕ) (is js : List (Item V)) → AllHold ds s is → AllHold ds s js → AllHold ds s (is ++ js)
 holds-append ds s [] js h k = k
@@ -143,41 +130,41 @@ module _ (members : Members) (q : Row) (row : IsRow q) (ts : Trees ℕ) where
   pub canon-IsRow : IsRow (canon nat_eq X)
   canon-IsRow = record { canonical = canon-IsCanonical nat_eq nat_eq-IsSame X; wide = all_wide q.domains vs row.wide }
 
-module _ {U : Type 0} (W : Type 0) (members : Members) (P : Trees U) (D : Domains U) (E : List (Item U)) (r : Row) (h : IsSolved (pattern P D) E r) (P2 : Trees (U ⊎ W)) (F : List (Item (U ⊎ W))) (q : Row) (k : IsSolved (pattern P2 (with_fresh W D)) (map (put_item (kept W)) E ++ F) q) where
+module _ {U : Type 0} (W : Type 0) (members : Members) (P : Trees U) (D : Domains U) (E : List (Item U)) (r : Row) (h : IsSolved (pattern P D) E r) (P2 : Trees (U ⊎ W)) (F : List (Item (U ⊎ W))) (q : Row) (row : IsRow q) (k : Meets (pattern P2 (with_fresh W D)) (map (put_item (kept W)) E ++ F) q) where
   abbrev c0 : U → Tree ℕ
-  c0 u = k.meets.by (inl u)
+  c0 u = k.by (inl u)
 
   abbrev rn : ℕ → Tree ℕ
-  rn = ren members q k.row (put_all c0 P)
+  rn = ren members q row (put_all c0 P)
 
   abbrev x : Row
-  x = canon nat_eq (X members q k.row (put_all c0 P))
+  x = canon nat_eq (X members q row (put_all c0 P))
 
-  put_c0 : (t : Tree U) → put rn (put k.meets.by (put (kept W) t)) ≡ put (λ u. put rn (c0 u)) t
-  put_c0 t = ap (put rn) (put-put k.meets.by (kept W) t) ∙ put-put rn c0 t
+  put_c0 : (t : Tree U) → put rn (put k.by (put (kept W) t)) ≡ put (λ u. put rn (c0 u)) t
+  put_c0 t = ap (put rn) (put-put k.by (kept W) t) ∙ put-put rn c0 t
 
-  old_items : (is : List (Item U)) → AllHold (domain_at q.domains) k.meets.by (map (put_item (kept W)) is ++ F) → AllHold (domain_at x.domains) (λ u. put rn (c0 u)) is
+  old_items : (is : List (Item U)) → AllHold (domain_at q.domains) k.by (map (put_item (kept W)) is ++ F) → AllHold (domain_at x.domains) (λ u. put rn (c0 u)) is
   old_items [] g = tt
   old_items (equation a b ∷ is) g = (sym (put_c0 a) ∙ ap (put rn) g.0 ∙ put_c0 b, old_items is g.1)
   old_items (membership t d ∷ is) g = (
-    subst (MayGo (domain_at x.domains) (Some d)) (put_c0 t) (goes_further (domain_at q.domains) (domain_at x.domains) rn (Some d) (put k.meets.by (put (kept W) t)) (λ v i. ren-goes members q k.row (put_all c0 P) v) g.0),
+    subst (MayGo (domain_at x.domains) (Some d)) (put_c0 t) (goes_further (domain_at q.domains) (domain_at x.domains) rn (Some d) (put k.by (put (kept W) t)) (λ v i. ren-goes members q row (put_all c0 P) v) g.0),
     old_items is g.1,
   )
 
   old_meets : Meets (pattern P D) E x
   old_meets = record {
     by = λ u. put rn (c0 u);
-    columns = sym (put_all-put_all rn c0 P) ∙ ren-columns members q k.row (put_all c0 P);
-    domains = λ u. goes_further (domain_at q.domains) (domain_at x.domains) rn (D u) (c0 u) (λ v i. ren-goes members q k.row (put_all c0 P) v) (k.meets.domains (inl u));
-    holds = old_items E k.meets.holds;
+    columns = sym (put_all-put_all rn c0 P) ∙ ren-columns members q row (put_all c0 P);
+    domains = λ u. goes_further (domain_at q.domains) (domain_at x.domains) rn (D u) (c0 u) (λ v i. ren-goes members q row (put_all c0 P) v) (k.domains (inl u));
+    holds = old_items E k.holds;
   }
 
-  cover : Covers (pattern_of r) (X members q k.row (put_all c0 P))
-  cover = covers_through (pattern_of r) (pattern_of x) (X members q k.row (put_all c0 P)) (h.most x (canon-IsRow members q k.row (put_all c0 P)) old_meets) (canon-covers nat_eq nat_eq-IsSame (X members q k.row (put_all c0 P)))
+  cover : Covers (pattern_of r) (X members q row (put_all c0 P))
+  cover = covers_through (pattern_of r) (pattern_of x) (X members q row (put_all c0 P)) (h.most x (canon-IsRow members q row (put_all c0 P)) old_meets) (canon-covers nat_eq nat_eq-IsSame (X members q row (put_all c0 P)))
 
   abbrev on : ℕ ⊎ W → Tree ℕ
   on (inl v) = cover.by v
-  on (inr w) = k.meets.by (inr w)
+  on (inr w) = k.by (inr w)
 
   below_or : (v n : ℕ) → (v < n) ⊎ (n ≤ v)
   below_or v n = nat_split v n
@@ -194,42 +181,47 @@ module _ {U : Type 0} (W : Type 0) (members : Members) (P : Trees U) (D : Domain
   ]
   on-goes (inr w) = tt
 
-  agrees : (v : U ⊎ W) → ((u : U) → v ≡ inl u → IsIn u (variables_all P)) → put on (moved W h.meets.by v) ≡ k.meets.by v
+  agrees : (v : U ⊎ W) → ((u : U) → v ≡ inl u → IsIn u (variables_all P)) → put on (moved W h.meets.by v) ≡ k.by v
   agrees (inl u) i =
       put-put on (kept W) (h.meets.by u)
       ∙ put_all-at (λ a. put cover.by (h.meets.by a)) c0 P (sym (put_all-put_all cover.by h.meets.by P) ∙ ap (put_all cover.by) h.meets.columns ∙ cover.columns) u (i u refl)
   agrees (inr w) i = refl
 
-  abbrev InTree : Tree (U ⊎ W) → Type 0
-  InTree t = (u : U) → IsIn (inl u) (variables t) → IsIn u (variables_all P)
+  on-tree : (t : Tree (U ⊎ W)) → TermSpeaksOf P t → put on (put (moved W h.meets.by) t) ≡ put k.by t
+  on-tree t i = put-put on (moved W h.meets.by) t ∙ put-on (λ v. put on (moved W h.meets.by v)) k.by t (λ v j. agrees v (λ u e. i u (subst (λ z. IsIn z (variables t)) e j)))
 
-  abbrev InItems : List (Item (U ⊎ W)) → Type 0
-  InItems [] = Unit {0}
-  InItems (equation a b ∷ is) = InTree a × InTree b × InItems is
-  InItems (membership t d ∷ is) = InTree t × InItems is
-
-  on-tree : (t : Tree (U ⊎ W)) → InTree t → put on (put (moved W h.meets.by) t) ≡ put k.meets.by t
-  on-tree t i = put-put on (moved W h.meets.by) t ∙ put-on (λ v. put on (moved W h.meets.by v)) k.meets.by t (λ v j. agrees v (λ u e. i u (subst (λ z. IsIn z (variables t)) e j)))
-
-  on-items : (is : List (Item (U ⊎ W))) → InItems is → AllHold (domain_at q.domains) k.meets.by is → AllHold (domain_at q.domains) on (map (put_item (moved W h.meets.by)) is)
+  on-items : (is : List (Item (U ⊎ W))) → ItemsSpeakOf P is → AllHold (domain_at q.domains) k.by is → AllHold (domain_at q.domains) on (map (put_item (moved W h.meets.by)) is)
   on-items [] i g = tt
   on-items (equation a b ∷ is) i g = (on-tree a i.0 ∙ g.0 ∙ sym (on-tree b i.1), on-items is i.2 g.1)
   on-items (membership t d ∷ is) i g = (subst (MayGo (domain_at q.domains) (Some d)) (sym (on-tree t i.0)) g.0, on-items is i.1 g.1)
 
-  last_holds : (is : List (Item U)) → AllHold (domain_at q.domains) k.meets.by (map (put_item (kept W)) is ++ F) → AllHold (domain_at q.domains) k.meets.by F
+  last_holds : (is : List (Item U)) → AllHold (domain_at q.domains) k.by (map (put_item (kept W)) is ++ F) → AllHold (domain_at q.domains) k.by F
   last_holds [] g = g
   last_holds (equation a b ∷ is) g = last_holds is g.1
   last_holds (membership t d ∷ is) g = last_holds is g.1
 
+  -- what meets all the items meets the last ones, from the row of those before
+  pub meets_last : ColumnsSpeakOf P P2 → ItemsSpeakOf P F → Meets (pattern (put_all (moved W h.meets.by) P2) (with_fresh W (domain_at r.domains))) (map (put_item (moved W h.meets.by)) F) q
+  meets_last i j = record {
+    by = on;
+    columns = put_all-put_all on (moved W h.meets.by) P2 ∙ put_all-on (λ v. put on (moved W h.meets.by v)) k.by P2 (λ v l. agrees v (λ u e. i u (subst (λ z. IsIn z (variables_all P2)) e l))) ∙ k.columns;
+    domains = on-goes;
+    holds = on-items F j (last_holds E k.holds);
+  }
+
+module _ {U : Type 0} (W : Type 0) (members : Members) (P : Trees U) (D : Domains U) (E : List (Item U)) (r : Row) (h : IsSolved (pattern P D) E r) (P2 : Trees (U ⊎ W)) (F : List (Item (U ⊎ W))) (q : Row) where
   -- the row of all the items is the row of the last ones, from the row of those before
-  pub resumed : ((u : U) → IsIn (inl u) (variables_all P2) → IsIn u (variables_all P)) → InItems F → IsSolved (pattern (put_all (moved W h.meets.by) P2) (with_fresh W (domain_at r.domains))) (map (put_item (moved W h.meets.by)) F) q
-  resumed i j = record {
+  pub resumed : IsSolved (pattern P2 (with_fresh W D)) (map (put_item (kept W)) E ++ F) q → ColumnsSpeakOf P P2 → ItemsSpeakOf P F → IsSolved (pattern (put_all (moved W h.meets.by) P2) (with_fresh W (domain_at r.domains))) (map (put_item (moved W h.meets.by)) F) q
+  resumed k i j = record {
     row = k.row;
-    meets = record {
-      by = on;
-      columns = put_all-put_all on (moved W h.meets.by) P2 ∙ put_all-on (λ v. put on (moved W h.meets.by v)) k.meets.by P2 (λ v l. agrees v (λ u e. i u (subst (λ z. IsIn z (variables_all P2)) e l))) ∙ k.meets.columns;
-      domains = on-goes;
-      holds = on-items F j (last_holds E k.meets.holds);
-    };
+    meets = meets_last W members P D E r h P2 F q k.row k.meets i j;
     most = λ s n g. k.most s n (meets_all W P D E r h P2 F s g);
+  }
+
+  -- and the other way round
+  pub at_once : IsSolved (pattern (put_all (moved W h.meets.by) P2) (with_fresh W (domain_at r.domains))) (map (put_item (moved W h.meets.by)) F) q → ColumnsSpeakOf P P2 → ItemsSpeakOf P F → IsSolved (pattern P2 (with_fresh W D)) (map (put_item (kept W)) E ++ F) q
+  at_once k i j = record {
+    row = k.row;
+    meets = meets_all W P D E r h P2 F q k.meets;
+    most = λ s n g. k.most s n (meets_last W members P D E r h P2 F s n g i j);
   }

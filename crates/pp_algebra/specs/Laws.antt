@@ -1,12 +1,14 @@
 -- The laws of rows, covering, generalisation and solving, as statements.
-use Rattle.std.specs.Prelude.{◌≡◌, ℕ, ◌⊎◌, ◌↔◌, true, List, [], ◌∷◌, Option}
+use Rattle.std.specs.Prelude.{◌≡◌, ℕ, ◌⊎◌, ◌↔◌, true, List, [], ◌∷◌, ◌++◌, map, Option, nat_eq}
 use Rattle.std.proofs.Common.{inl, inr}
-use Rattle.pp_algebra.specs.Terms.{Trees, count}
-use Rattle.pp_algebra.specs.Rows.{Domains, Pattern, Row, domain_at, pattern_of, Domain, IsCanonical, AreWide}
+use Rattle.pp_algebra.specs.Terms.{Trees, count, put_all, variables_all}
+use Rattle.pp_algebra.specs.Rows.{Domains, Pattern, Row, domain_at, pattern_of, Domain, IsCanonical, IsRow, AreWide}
 use Rattle.pp_algebra.specs.Covers.{Covers, IsIn}
-use Rattle.pp_algebra.specs.Canon.{same_row}
+use Rattle.pp_algebra.specs.Canon.{canon, same_row}
 use Rattle.pp_algebra.specs.Least.{least_row}
-use Rattle.pp_algebra.specs.Solve.{Item, IsSolved, Solvable}
+use Rattle.pp_algebra.specs.Joins.{Joins, rows_of, joined, AllOf, AreWideAs, SameRows}
+use Rattle.pp_algebra.specs.Solve.{Item, put_item, Holds, Meets, IsSolved, HasNone, Solvable}
+use Rattle.pp_algebra.specs.Stages.{pattern, with_fresh, kept, moved, ColumnsSpeakOf, ItemsSpeakOf}
 
 abbrev pub RowCovers : Row → Row → Type 0
 RowCovers r q = Covers (pattern_of r) (pattern_of q)
@@ -33,9 +35,66 @@ LeastCovers = (r : Row) (rs : List Row) (q : Row) → IsIn q (r ∷ rs) → coun
 abbrev pub LeastIsLeast : Type 0
 LeastIsLeast = (r : Row) (rs : List Row) (s : Row) → ((q : Row) → IsIn q (r ∷ rs) → RowCovers s q) → RowCovers s (least_row r rs)
 
+-- it depends on which rows there are, and not on their order or number
+abbrev pub LeastOfSame : Type 0
+LeastOfSame = (r q : Row) (rs qs : List Row) → AreWideAs (r ∷ rs) r → SameRows (r ∷ rs) (q ∷ qs) → least_row r rs ≡ least_row q qs
+
+-- two rows may change places
+abbrev pub LeastCommutes : Type 0
+LeastCommutes = (r q : Row) → count q.columns ≡ count r.columns → least_row r (q ∷ []) ≡ least_row q (r ∷ [])
+
+abbrev pub LeastAssociates : Type 0
+LeastAssociates = (n : ℕ) (r q p : Row) → AllOf n (r ∷ q ∷ p ∷ []) → least_row (least_row r (q ∷ [])) (p ∷ []) ≡ least_row r (least_row q (p ∷ []) ∷ [])
+
+-- a row and itself give that row
+abbrev pub LeastIsIdempotent : Type 0
+LeastIsIdempotent = (r : Row) → IsCanonical r → least_row r (r ∷ []) ≡ r
+
+-- of more rows it is more general
+abbrev pub LeastOfMore : Type 0
+LeastOfMore = (r : Row) (rs more : List Row) → AreWideAs (r ∷ rs) r → RowCovers (least_row r (rs ++ more)) (least_row r rs)
+
+-- two lists may be generalised first each by itself
+abbrev pub LeastInParts : Type 0
+LeastInParts = (r q : Row) (rs qs : List Row) → AreWideAs ((r ∷ rs) ++ (q ∷ qs)) r → least_row (least_row r rs) (least_row q qs ∷ []) ≡ least_row r (rs ++ q ∷ qs)
+
+-- joins in any order, any grouping and with repeats give the least generalisation of the whole list
+abbrev pub JoinsGiveLeast : Type 0
+JoinsGiveLeast = (n : ℕ) (r : Row) (rs : List Row) (j : Joins) → AllOf n (r ∷ rs) → SameRows (r ∷ rs) (rows_of j) → joined j ≡ least_row r rs
+
 -- a problem has at most one most general row
 abbrev pub SolvedOnce : Type 0 → Type 0
 SolvedOnce V = (p : Pattern V) (items : List (Item V)) (r q : Row) → IsSolved p items r → IsSolved p items q → r ≡ q
+
+-- a row meets the items exactly where the most general row covers it
+abbrev pub SolvedCovers : Type 0 → Type 0
+SolvedCovers V = (p : Pattern V) (items : List (Item V)) (r : Row) → IsSolved p items r → (q : Row) → IsRow q → Meets p items q ↔ RowCovers r q
+
+-- the same items stand in both lists, in whatever order and however often
+abbrev pub SameItems : {V : Type 0} → List (Item V) → List (Item V) → Type 0
+SameItems {V} items others = ((i : Item V) → IsIn i items → IsIn i others) × ((i : Item V) → IsIn i others → IsIn i items)
+
+abbrev pub SolvedInAnyOrder : Type 0 → Type 0
+SolvedInAnyOrder V = (p : Pattern V) (items others : List (Item V)) → SameItems items others → ((r : Row) → IsSolved p items r ↔ IsSolved p others r) × (HasNone p items ↔ HasNone p others)
+
+-- an item that the most general row meets already changes nothing
+abbrev pub SolvedWithMore : Type 0 → Type 0
+SolvedWithMore V = (p : Pattern V) (items : List (Item V)) (i : Item V) (r : Row) (h : IsSolved p items r) → Holds (domain_at r.domains) h.meets.by i → IsSolved p (i ∷ items) r
+
+-- solving and taking some of the columns is solving for these columns
+abbrev pub SolvedForSome : Type 0 → Type 0
+SolvedForSome V = (ts us : Trees V) (ds : Domains V) (items : List (Item V)) (r : Row) (h : IsSolved (pattern ts ds) items r) → ((v : V) → IsIn v (variables_all us) → IsIn v (variables_all ts))
+    → IsSolved (pattern us ds) items (canon nat_eq (pattern (put_all h.meets.by us) (domain_at r.domains)))
+
+-- whether a row meets the items does not lie in the columns
+abbrev pub NoneForAny : Type 0 → Type 0
+NoneForAny V = (ts us : Trees V) (ds : Domains V) (items : List (Item V)) → HasNone (pattern ts ds) items → HasNone (pattern us ds) items
+
+-- the row of the first items, and then of the later ones from that row on, is the row of all of them at once; W are fresh variables of the second stage
+abbrev pub SolvedInStages : Type 0 → Type 0 → Type 0
+SolvedInStages U W = (ts : Trees U) (ds : Domains U) (items : List (Item U)) (r : Row) (h : IsSolved (pattern ts ds) items r) (us : Trees (U ⊎ W)) (later : List (Item (U ⊎ W))) → ColumnsSpeakOf ts us → ItemsSpeakOf ts later
+    → ((q : Row) → IsSolved (pattern us (with_fresh W ds)) (map (put_item (kept W)) items ++ later) q ↔ IsSolved (pattern (put_all (moved W h.meets.by) us) (with_fresh W (domain_at r.domains))) (map (put_item (moved W h.meets.by)) later) q)
+    × (HasNone (pattern us (with_fresh W ds)) (map (put_item (kept W)) items ++ later) ↔ HasNone (pattern (put_all (moved W h.meets.by) us) (with_fresh W (domain_at r.domains))) (map (put_item (moved W h.meets.by)) later))
 
 -- columns and items over the variables of a row
 abbrev pub RowsSolve : Type 0
@@ -48,3 +107,10 @@ two_kinds ds es (inr v) = domain_at es v
 -- columns and items over the variables of two rows
 abbrev pub PairsSolve : Type 0
 PairsSolve = (ds es : List (Option Domain)) (ts : Trees (ℕ ⊎ ℕ)) (items : List (Item (ℕ ⊎ ℕ))) → AreWide ds → AreWide es → Solvable (record { columns = ts; domains = two_kinds ds es }) items
+
+-- the domains may also be empty or have one integer
+abbrev pub RowsAlwaysSolve : Type 0
+RowsAlwaysSolve = (ds : List (Option Domain)) (ts : Trees ℕ) (items : List (Item ℕ)) → Solvable (record { columns = ts; domains = domain_at ds }) items
+
+abbrev pub PairsAlwaysSolve : Type 0
+PairsAlwaysSolve = (ds es : List (Option Domain)) (ts : Trees (ℕ ⊎ ℕ)) (items : List (Item (ℕ ⊎ ℕ))) → Solvable (record { columns = ts; domains = two_kinds ds es }) items

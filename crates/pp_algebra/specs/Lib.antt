@@ -3,5 +3,8 @@ pub mod Rows
 pub mod Covers
 pub mod Canon
 pub mod Least
+pub mod Joins
 pub mod Solve
+pub mod Stages
 pub mod Laws
+pub mod Examples

@@ -4,3 +4,8 @@ pub mod Tokens
 pub mod Sentences
 pub mod Statuses
 pub mod Laws
+pub mod Programs
+pub mod Printing
+pub mod Answers
+pub mod FirstForm
+pub mod FirstMeaning

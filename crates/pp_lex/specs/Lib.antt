@@ -1,4 +1,5 @@
 pub mod Gaps
 pub mod Fronts
 pub mod Readings
+pub mod AllTokens
 pub mod Spans

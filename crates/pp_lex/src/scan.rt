@@ -16,13 +16,14 @@ use std::mem;
 
 /// What stands behind a place, past white space and comments.
 #[derive(Clone, Copy, Debug)]
-enum Item {
+pub(crate) enum Item {
     Token(Token),
     End,
     Bad,
 }
 
-fn next(bytes: &[u8], place: usize) -> Item
+/// What stands behind a place.
+pub(crate) fn next(bytes: &[u8], place: usize) -> Item
     requires within { place ≤ length bytes.now }
     requires small { length bytes.now ≤ 4194304 }
     ensures { IsItem bytes.now place result }

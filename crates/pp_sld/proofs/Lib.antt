@@ -4,3 +4,9 @@ pub mod Trees
 pub mod Paths
 pub mod Covered
 pub mod Reached
+pub mod Verdicts
+pub mod Settled
+pub mod Worked
+pub mod CallCovers
+pub mod Deeper
+pub mod DeeperVerdict

@@ -1,8 +1,7 @@
 -- A configuration has at most one search tree.
 use Rattle.std.proofs.Common.{◌≡◌, ℕ, List, [], ◌∷◌, Option, refl, ap, sym, ◌∙◌, subst, inl, inr}
 use Rattle.pp_algebra.specs.Terms.{Trees}
-use Rattle.pp_algebra.specs.Rows.{Domain, Pattern, Row}
-use Rattle.pp_algebra.specs.Solve.{Item, IsSolved}
+use Rattle.pp_algebra.specs.Rows.{Domain}
 use Rattle.pp_sld.specs.Goals.{Shape, Goal, Program, Config, with_goals, shapes, row_of}
 use Rattle.pp_sld.specs.Ways.{Way, Leads, IsDead}
 use Rattle.pp_sld.specs.Trees.{Search, answer, loose, refused, passed, choice, Searches, no_more, child, failed, IsSearch, AreSearches}

@@ -1,11 +1,7 @@
 -- Splitting a work loses nothing.
-use Rattle.std.proofs.Common.{◌≡◌, ℕ, zero, suc, ◌-◌, ◌<◌, List, [], ◌∷◌, ◌++◌, refl, ap, sym, ◌∙◌, arith, append_assoc}
+use Rattle.std.proofs.Common.{◌≡◌, ℕ, zero, suc, ◌-◌, ◌<◌, List, [], ◌∷◌, ◌++◌, refl, ap, sym, ◌∙◌, arith, append_assoc, append-nil}
 use Rattle.pp_sld.specs.Trees.{Search, answer, loose, refused, passed, choice, Searches, no_more, child, failed}
 use Rattle.pp_sld.specs.Paths.{kids, skip, first_few, between, count_kids, Level, Leaf, leaves, leaves_all, of_first, worth, at_path, AllLast, ComesTo, FirstIs, PathComesTo, level}
-
-nil_right : {A : Type 0} (xs : List A) → xs ++ [] ≡ xs
-nil_right [] = refl
-nil_right (x ∷ xs) = ap (λ y. x ∷ y) (nil_right xs)
 
 skip_suc : (n : ℕ) (ts : Searches) → skip (suc n) ts ≡ skip 1 (skip n ts)
 skip_suc zero ts = refl
@@ -46,17 +42,17 @@ of_first-both f g h e (failed ts) = refl
 -- a work without siblings stands for its path
 pub worth_last : (ls : List Level) → AllLast ls → (t : Search) → worth ls t ≡ at_path ls t
 worth_last [] h t = refl
-worth_last (l ∷ ls) h t = ap (λ x. of_first (worth ls) (skip l.now (kids t)) ++ x) (no_siblings (suc l.now) l.end (kids t) h.0) ∙ nil_right (of_first (worth ls) (skip l.now (kids t))) ∙ of_first-same (worth ls) (at_path ls) (worth_last ls h.1) (skip l.now (kids t))
+worth_last (l ∷ ls) h t = ap (λ x. of_first (worth ls) (skip l.now (kids t)) ++ x) (no_siblings (suc l.now) l.end (kids t) h.0) ∙ append-nil (of_first (worth ls) (skip l.now (kids t))) ∙ of_first-same (worth ls) (at_path ls) (worth_last ls h.1) (skip l.now (kids t))
 
 -- `split` at the shallowest level with a sibling
 pub split_worth : (es : List Level) (l : Level) (ls : List Level) → AllLast es → suc l.now < l.end → (t : Search) → worth (es ++ l ∷ ls) t ≡ worth (es ++ level l.now (suc l.now) ∷ ls) t ++ worth (es ++ level (suc l.now) l.end ∷ []) t
 split_worth [] l ls h b t =
     ap (λ x. of_first (worth ls) (skip l.now (kids t)) ++ x) (siblings (suc l.now) l.end (kids t) b)
-    ∙ ap (λ x. x ++ worth (level (suc l.now) l.end ∷ []) t) (sym (nil_right (of_first (worth ls) (skip l.now (kids t)))) ∙ ap (λ x. of_first (worth ls) (skip l.now (kids t)) ++ x) (sym (no_siblings (suc l.now) (suc l.now) (kids t) refl)))
+    ∙ ap (λ x. x ++ worth (level (suc l.now) l.end ∷ []) t) (sym (append-nil (of_first (worth ls) (skip l.now (kids t)))) ∙ ap (λ x. of_first (worth ls) (skip l.now (kids t)) ++ x) (sym (no_siblings (suc l.now) (suc l.now) (kids t) refl)))
 split_worth (e ∷ es) l ls h b t =
     let none = no_siblings (suc e.now) e.end (kids t) h.0 in
     let s = skip e.now (kids t) in
-    let one = λ (ks : List Level). ap (λ x. of_first (worth ks) s ++ x) none ∙ nil_right (of_first (worth ks) s) in
+    let one = λ (ks : List Level). ap (λ x. of_first (worth ks) s ++ x) none ∙ append-nil (of_first (worth ks) s) in
     one (es ++ l ∷ ls)
     ∙ of_first-both (worth (es ++ l ∷ ls)) (worth (es ++ level l.now (suc l.now) ∷ ls)) (worth (es ++ level (suc l.now) l.end ∷ [])) (split_worth es l ls h.1 b) s
     ∙ ap (λ x. x ++ of_first (worth (es ++ level (suc l.now) l.end ∷ [])) s) (sym (one (es ++ level l.now (suc l.now) ∷ ls)))

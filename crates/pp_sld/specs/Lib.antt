@@ -10,3 +10,4 @@ pub mod Findings
 pub mod Paths
 pub mod Reach
 pub mod Laws
+pub mod Examples

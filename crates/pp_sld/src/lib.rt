@@ -3,6 +3,10 @@
 //! The crate is read by contracts alone: its functions have no code, and each one's contract is a law.
 #![tactic(auto)]
 
+mod examples;
 mod laws;
 
-pub use laws::{search_is_total, search_is_unique};
+pub use examples::{worked_decisions, worked_verdicts};
+pub use laws::{
+    findings_give_the_verdict, paths_keep_every_leaf, search_is_total, search_is_unique,
+};

@@ -1,0 +1,12 @@
+pub mod Members
+pub mod Canonical
+pub mod Positions
+pub mod Words
+pub mod Ascending
+pub mod Nth
+pub mod Inside
+pub mod Meet
+pub mod Operations
+pub mod Without
+pub mod Union
+pub mod Equal

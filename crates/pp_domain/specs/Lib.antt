@@ -1,0 +1,4 @@
+pub mod Intervals
+pub mod Sets
+pub mod Merging
+pub mod Equality

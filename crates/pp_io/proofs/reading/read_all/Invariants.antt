@@ -1,0 +1,13 @@
+use Rattle.std.proofs.Common.{◌+◌, ◌-◌, ◌≤◌, vec_len}
+use Rattle.pp_io.specs.Ends.{Gave}
+use Rattle.pp_io.proofs.reading.read_all.Given as goal
+
+abbrev pub invariant-loop-bytes : goal.invariant-loop-bytes
+invariant-loop-bytes g l = record {
+  within : vec_len l.bytes ≤ l.limit;
+  count : g.S.Source.faults l.fn.source ≤ g.S.Source.faults l.source;
+  given : Gave (g.S.Source.left l.fn.source) (g.S.Source.left l.source) l.bytes.items;
+}
+
+abbrev pub decreases-loop-bytes : goal.decreases-loop-bytes
+decreases-loop-bytes g l = l.limit + 1 - vec_len l.bytes

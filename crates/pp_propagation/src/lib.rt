@@ -1,0 +1,8 @@
+//! The meaning of a run: the store, faces, turns, the run and the reply, with their laws.
+//!
+//! The crate is read by contracts alone: its functions have no code, and each one's contract is a law.
+#![tactic(auto)]
+
+mod laws;
+
+pub use laws::{run_is_unique, verdict_is_unique};

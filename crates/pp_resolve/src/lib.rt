@@ -1,0 +1,12 @@
+//! The answers of one goal over facts, and what they have in common.
+#![tactic(auto)]
+
+mod answers;
+mod fact;
+mod least;
+#[cfg(test)]
+mod tests;
+
+pub use answers::first_answers;
+pub use fact::Fact;
+pub use least::first_least;

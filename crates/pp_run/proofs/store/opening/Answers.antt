@@ -1,0 +1,15 @@
+use Rattle.std.proofs.Common.{◌≡◌, arith, add-one, subst}
+use Rattle.std.proofs.lemmas.Result.{IfOk-weaker}
+use Rattle.pp_sld.specs.Leaves.{variables_from}
+use Rattle.pp_term.specs.Columns.{trees_of}
+use Rattle.pp_term.proofs.Lists.{from_push}
+use Rattle.pp_run.proofs.FreeRows.{opened}
+use Rattle.pp_run.proofs.store.opening.Goals as goal
+
+pub loop-variable-preserved : goal.loop-variable-preserved
+loop-variable-preserved c = rw (c.in_ok-push.ensures.items, c.in_ok-variable.ensures, add-one) (from_push c.loop-variable.columns.items 0 c.loop-variable.variable c.loop-variable.variable (omega arith) c.loop-variable.invariant)
+
+pub returns : goal.returns
+returns c =
+    let e : c.loop-variable.variable ≡ c.args.variables = omega arith in
+    IfOk-weaker c.canon.result _ _ (λ r f. opened c.loop-variable.columns.items c.args.variables r (subst (λ n. trees_of c.loop-variable.columns.items ≡ variables_from 0 n) e c.loop-variable.invariant) f) c.canon.ensures

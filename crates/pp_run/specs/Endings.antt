@@ -1,0 +1,46 @@
+-- How a call of the program ends: what it wrote for a reply, and what it left in its source.
+use Rattle.std.specs.Prelude.{◌≡◌, ◌⊎◌, ◌++◌, Option}
+use Rattle.pp_language.specs.declared.status.Status.{Status}
+use Rattle.pp_language.specs.declared.status.Status.TheVariants.{Yes, No, Usage, Syntax, Stopped, Limit, ReadFault, WriteFault, Memory, Unbuilt}
+use Rattle.pp_language.specs.Texts.{Text}
+use Rattle.pp_io.specs.Ends.{Took}
+
+-- where `reply` says which status and bytes are called for: a write fault took a prefix of such bytes, a read fault and want of memory
+-- took nothing, and any other status is called for with the bytes that were taken
+abbrev pub Replied : (Status → Text → Type 0) → Option Text → Option Text → Status → Type 0
+Replied reply before after ReadFault = after ≡ before
+Replied reply before after Memory = after ≡ before
+Replied reply before after WriteFault = (s : Status) × (b : Text) × reply s b × (done : Text) × (rest : Text) × (b ≡ done ++ rest) × Took before after done
+Replied reply before after Yes = (b : Text) × reply Yes b × Took before after b
+Replied reply before after No = (b : Text) × reply No b × Took before after b
+Replied reply before after Usage = (b : Text) × reply Usage b × Took before after b
+Replied reply before after Syntax = (b : Text) × reply Syntax b × Took before after b
+Replied reply before after Stopped = (b : Text) × reply Stopped b × Took before after b
+Replied reply before after Limit = (b : Text) × reply Limit b × Took before after b
+Replied reply before after Unbuilt = (b : Text) × reply Unbuilt b × Took before after b
+
+-- a run was made, or the text was refused for what it is
+abbrev pub HasRead : Status → Type 0
+HasRead Yes = Unit {0}
+HasRead No = Unit {0}
+HasRead Stopped = Unit {0}
+HasRead Syntax = Unit {0}
+HasRead Limit = Unit {0}
+HasRead Unbuilt = Unit {0}
+HasRead Usage = ⊥
+HasRead ReadFault = ⊥
+HasRead WriteFault = ⊥
+HasRead Memory = ⊥
+
+-- bytes were written whole with this status, or a write failed behind a prefix of them
+abbrev pub Wrote : Status → Text → Option Text → Option Text → Status → Type 0
+Wrote s b before after result =
+    ((result ≡ s) × Took before after b) ⊎ ((result ≡ WriteFault) × (done : Text) × (rest : Text) × (b ≡ done ++ rest) × Took before after done)
+
+-- the endings of a call whose words aren't valid
+abbrev pub IsWordsEnd : Status → Type 0
+IsWordsEnd s = (s ≡ Usage) ⊎ (s ≡ WriteFault)
+
+-- the endings before the first write
+abbrev pub TookNothing : Status → Type 0
+TookNothing s = (s ≡ ReadFault) ⊎ (s ≡ Memory)

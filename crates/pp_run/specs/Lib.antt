@@ -1,0 +1,5 @@
+pub mod Endings
+pub mod RunStores
+pub mod RunPlaces
+pub mod RunOutcomes
+pub mod Answered

@@ -1,0 +1,13 @@
+//! The top call of the program: words, a text from a source, and the answer to a sink.
+#![tactic(auto)]
+
+mod answer;
+mod command;
+mod print;
+mod reply;
+mod run;
+mod store;
+mod words;
+
+pub use command::alone;
+pub use pp_language::Status;

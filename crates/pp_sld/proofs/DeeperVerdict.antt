@@ -1,0 +1,156 @@
+-- A verdict other than unfinished stays when answers and loose ends grow.
+use Rattle.std.proofs.Common.{◌≡◌, Bool, true, false, cond, List, [], ◌∷◌, ◌++◌, refl, ap, sym, ◌∙◌, subst, inl, inr}
+use Rattle.pp_algebra.specs.Terms.{count}
+use Rattle.pp_algebra.specs.Rows.{Row, IsCanonical, pattern_of}
+use Rattle.pp_algebra.specs.Covers.{IsIn}
+use Rattle.pp_algebra.specs.Canon.{same_row}
+use Rattle.pp_algebra.specs.Least.{least_row}
+use Rattle.pp_algebra.specs.Laws.{RowCovers}
+use Rattle.pp_algebra.proofs.Order.{covers_through, IsIn-left, IsIn-right}
+use Rattle.pp_algebra.proofs.Antisym.{covers_antisymmetric, IsIn-either}
+use Rattle.pp_algebra.proofs.Law.{count-covers, least_row-IsCanonical, least_row-covers, least_row-least}
+use Rattle.pp_algebra.proofs.SameRow.{same_row-sound, same_row-itself}
+use Rattle.pp_sld.specs.Trace.{trace}
+use Rattle.pp_sld.specs.Leaves.{call, root, answer_rows, loose_rows}
+use Rattle.pp_sld.specs.Verdicts.{Mode, most, unique, consistent, Verdict, same, nothing, unfinished, narrow, some_row, another, verdict}
+use Rattle.pp_sld.specs.Laws.{Deepens}
+use Rattle.pp_sld.proofs.Once.{once}
+use Rattle.pp_sld.proofs.CallCovers.{leaves_under_call, call-IsCanonical}
+use Rattle.pp_sld.proofs.Deeper.{Under, Grown, grows}
+
+-- what stands in the rest of the list, and nothing else than r
+another-none : (r : Row) (qs : List Row) → another r qs ≡ false → (q : Row) → IsIn q qs → q ≡ r
+another-none r [] e q i = absurd i
+another-none r (x ∷ qs) e q i = go (same_row r x) refl e i (λ f. another-none r qs f q)
+  where
+    go : (b : Bool) → same_row r x ≡ b → cond b (another r qs) true ≡ false → IsIn q (x ∷ qs) → (another r qs ≡ false → IsIn q qs → q ≡ r) → q ≡ r
+    go true f e (inl g) h = sym g ∙ sym (same_row-sound r x f)
+    go true f e (inr j) h = h e j
+    go false f e i h = absurd (cc e)
+
+none-another : (r : Row) (qs : List Row) → ((q : Row) → IsIn q qs → q ≡ r) → another r qs ≡ false
+none-another r [] h = refl
+none-another r (x ∷ qs) h =
+    ap (λ z. cond (same_row r z) (another r qs) true) (h x (inl refl)) ∙ ap (λ b. cond b (another r qs) true) (same_row-itself r) ∙ none-another r qs (λ q i. h q (inr i))
+
+module _ (call : Row) (canonical : IsCanonical call) where
+  -- rows that the call covers, and that have become others that it covers
+  abbrev Widths : List Row → Type 0
+  Widths rs = (r : Row) → IsIn r rs → RowCovers call r
+
+  nothing_left : (B : List Row) → ((r : Row) → IsIn r B → ⊥) → B ≡ []
+  nothing_left [] h = refl
+  nothing_left (b ∷ B) h = absurd (h b (inl refl))
+
+  no-answers : (B D : List Row) → Grown [] [] B D → (B ≡ []) × (D ≡ [])
+  no-answers B D g = (
+    nothing_left B (λ r i. elim (g.1 r i) [ inl f ↦ f | inr u ↦ u.1 ]),
+    nothing_left D (λ r i. (g.2 r i).1),
+  )
+
+  fails : (m : Mode) (B D : List Row) → Grown [] [] B D → verdict m call B D ≡ verdict m call [] []
+  fails m B D g = let e = no-answers B D g in ap (λ x. verdict m call x D) e.0 ∙ ap (verdict m call []) e.1
+
+  still-consistent : (a : Row) (A C B D : List Row) → Grown (a ∷ A) C B D → verdict consistent call B D ≡ nothing
+  still-consistent a A C [] D g = absurd (g.0 a (inl refl))
+  still-consistent a A C (b ∷ B) D g = refl
+
+  -- two that differ are there still
+  still-differ : (a : Row) (A C B D : List Row) → another a A ≡ true → Grown (a ∷ A) C B D → verdict unique call B D ≡ nothing
+  still-differ a A C [] D e g = absurd (g.0 a (inl refl))
+  still-differ a A C (b ∷ B) D e g = go (another b B) refl
+    where
+      is-b : another b B ≡ false → (r : Row) → IsIn r (b ∷ B) → r ≡ b
+      is-b f r (inl p) = sym p
+      is-b f r (inr j) = another-none b B f r j
+
+      go : (x : Bool) → another b B ≡ x → verdict unique call (b ∷ B) D ≡ nothing
+      go true f = ap (λ z. cond z nothing (cond (some_row D) unfinished (cond (same_row b call) same (narrow b)))) f
+      go false f =
+          let k : another a A ≡ false = none-another a A (λ q i. is-b f q (g.0 q (inr i)) ∙ sym (is-b f a (g.0 a (inl refl)))) in
+          absurd (cc (k, e))
+
+  -- one row alone is there still
+  still-one : (a : Row) (A B D : List Row) → another a A ≡ false → Grown (a ∷ A) [] B D → verdict unique call B D ≡ verdict unique call (a ∷ A) []
+  still-one a A [] D e g = absurd (g.0 a (inl refl))
+  still-one a A (b ∷ B) D e g =
+      let is-a : (r : Row) → IsIn r (a ∷ A) → r ≡ a = λ r i. elim i [ inl p ↦ sym p | inr j ↦ another-none a A e r j ] in
+      let old : (r : Row) → IsIn r (b ∷ B) → r ≡ a = λ r i. elim (g.1 r i) [ inl j ↦ is-a r j | inr u ↦ absurd u.1 ] in
+      let first : b ≡ a = old b (inl refl) in
+      let alone : another b B ≡ false = none-another b B (λ q i. old q (inr i) ∙ sym first) in
+      let none : D ≡ [] = nothing_left D (λ r i. (g.2 r i).1) in
+      ap (verdict unique call (b ∷ B)) none
+      ∙ ap (λ z. cond z nothing (cond (same_row b call) same (narrow b))) alone
+      ∙ ap (λ z. cond (same_row z call) same (narrow z)) first
+      ∙ sym (ap (λ z. cond z nothing (cond (same_row a call) same (narrow a))) e)
+
+  still-unique : (a : Row) (A C B D : List Row) → Grown (a ∷ A) C B D → (verdict unique call (a ∷ A) C ≡ unfinished → ⊥) → verdict unique call B D ≡ verdict unique call (a ∷ A) C
+  still-unique a A C B D g h = go C (another a A) refl g h
+    where
+      go : (C : List Row) (x : Bool) → another a A ≡ x → Grown (a ∷ A) C B D → (verdict unique call (a ∷ A) C ≡ unfinished → ⊥) → verdict unique call B D ≡ verdict unique call (a ∷ A) C
+      go C true e g h = still-differ a A C B D e g ∙ sym (ap (λ z. cond z nothing (cond (some_row C) unfinished (cond (same_row a call) same (narrow a)))) e)
+      go [] false e g h = still-one a A B D e g
+      go (c ∷ C) false e g h = absurd (h (ap (λ z. cond z nothing unfinished) e))
+
+  width-of : (a r : Row) → RowCovers call a → RowCovers call r → count r.columns ≡ count a.columns
+  width-of a r h k = sym (count-covers call r k) ∙ count-covers call a h
+
+  -- the answers' generalisation of what has grown covers that of what was
+  least-grown : (a b : Row) (A C B D : List Row) → Widths (b ∷ B) → Grown (a ∷ A) C (b ∷ B) D → RowCovers (least_row b B) (least_row a A)
+  least-grown a b A C B D w g = least_row-least a A (least_row b B) (λ q i. least_row-covers b B q (g.0 q i) (width-of b q (w b (inl refl)) (w q (g.0 q i))))
+
+  abbrev outcome_most : Row → Row → Verdict
+  outcome_most g h = cond (same_row g call) same (cond (same_row g h) (narrow g) unfinished)
+
+  still-same : (a : Row) (A C B D : List Row) → Widths B → Grown (a ∷ A) C B D → same_row (least_row a A) call ≡ true → verdict most call B D ≡ same
+  still-same a A C [] D w g e = absurd (g.0 a (inl refl))
+  still-same a A C (b ∷ B) D w g e =
+      let is : least_row a A ≡ call = same_row-sound (least_row a A) call e in
+      let here : least_row b B ≡ call = covers_antisymmetric (least_row b B) call (least_row-IsCanonical b B) canonical (subst (RowCovers (least_row b B)) is (least-grown a b A C B D w g)) (least_row-least b B call w) in
+      ap (λ z. cond (same_row z call) same (cond (same_row z (least_row b (B ++ D))) (narrow z) unfinished)) here
+      ∙ ap (λ z. cond z same (cond (same_row call (least_row b (B ++ D))) (narrow call) unfinished)) (same_row-itself call)
+
+  still-narrow : (a : Row) (A C B D : List Row) → Widths ((a ∷ A) ++ C) → Widths B → Grown (a ∷ A) C B D → same_row (least_row a A) call ≡ false → same_row (least_row a A) (least_row a (A ++ C)) ≡ true → verdict most call B D ≡ narrow (least_row a A)
+  still-narrow a A C [] D v w g e f = absurd (g.0 a (inl refl))
+  still-narrow a A C (b ∷ B) D v w g e f =
+      let G = least_row a A in
+      let H : G ≡ least_row a (A ++ C) = same_row-sound G (least_row a (A ++ C)) f in
+      let all : (r : Row) → IsIn r ((a ∷ A) ++ C) → RowCovers G r = λ r i. subst (λ z. RowCovers z r) (sym H) (least_row-covers a (A ++ C) r i (width-of a r (v a (inl refl)) (v r i))) in
+      let under : (r : Row) → Under r C → RowCovers G r = λ r u. covers_through (pattern_of G) (pattern_of u.0) (pattern_of r) (all u.0 (IsIn-right u.0 (a ∷ A) C u.1)) u.2 in
+      let answers : (r : Row) → IsIn r (b ∷ B) → RowCovers G r = λ r i. elim (g.1 r i) [ inl j ↦ all r (IsIn-left r (a ∷ A) C j) | inr u ↦ under r u ] in
+      let leaves : (r : Row) → IsIn r ((b ∷ B) ++ D) → RowCovers G r = λ r i. elim (IsIn-either r (b ∷ B) D i) [ inl j ↦ answers r j | inr j ↦ under r (g.2 r j) ] in
+      let low : RowCovers (least_row b B) G = least-grown a b A C B D w g in
+      let one : least_row b B ≡ G = covers_antisymmetric (least_row b B) G (least_row-IsCanonical b B) (least_row-IsCanonical a A) low (least_row-least b B G answers) in
+      let high : RowCovers (least_row b (B ++ D)) G = least_row-least a A (least_row b (B ++ D)) (λ q i. least_row-covers b (B ++ D) q (IsIn-left q (b ∷ B) D (g.0 q i)) (width-of b q (w b (inl refl)) (w q (g.0 q i)))) in
+      let other : least_row b (B ++ D) ≡ G = covers_antisymmetric (least_row b (B ++ D)) G (least_row-IsCanonical b (B ++ D)) (least_row-IsCanonical a A) high (least_row-least b (B ++ D) G leaves) in
+      ap (λ z. outcome_most z (least_row b (B ++ D))) one ∙ ap (outcome_most G) other
+      ∙ ap (λ z. cond z same (cond (same_row G G) (narrow G) unfinished)) e
+      ∙ ap (λ z. cond z (narrow G) unfinished) (same_row-itself G)
+
+  still-most : (a : Row) (A C B D : List Row) → Widths ((a ∷ A) ++ C) → Widths B → Grown (a ∷ A) C B D → (verdict most call (a ∷ A) C ≡ unfinished → ⊥) → verdict most call B D ≡ verdict most call (a ∷ A) C
+  still-most a A C B D v w g h = go (same_row (least_row a A) call) (same_row (least_row a A) (least_row a (A ++ C))) refl refl
+    where
+      go : (x y : Bool) → same_row (least_row a A) call ≡ x → same_row (least_row a A) (least_row a (A ++ C)) ≡ y → verdict most call B D ≡ verdict most call (a ∷ A) C
+      go true y e f = still-same a A C B D w g e ∙ sym (ap (λ z. cond z same (cond (same_row (least_row a A) (least_row a (A ++ C))) (narrow (least_row a A)) unfinished)) e)
+      go false true e f = still-narrow a A C B D v w g e f ∙ sym (rw (e, f) refl)
+      go false false e f = absurd (h (rw (e, f) refl))
+
+  -- whatever the mode
+  pub verdict-grown : (m : Mode) (A C B D : List Row) → Widths (A ++ C) → Widths B → Grown A C B D → (verdict m call A C ≡ unfinished → ⊥) → verdict m call B D ≡ verdict m call A C
+  verdict-grown m [] [] B D v w g h = fails m B D g
+  verdict-grown most [] (c ∷ C) B D v w g h = absurd (h refl)
+  verdict-grown unique [] (c ∷ C) B D v w g h = absurd (h refl)
+  verdict-grown consistent [] (c ∷ C) B D v w g h = absurd (h refl)
+  verdict-grown most (a ∷ A) C B D v w g h = still-most a A C B D v w g h
+  verdict-grown unique (a ∷ A) C B D v w g h = still-unique a A C B D g h
+  verdict-grown consistent (a ∷ A) C B D v w g h = still-consistent a A C B D g
+
+pub deepens : Deepens
+deepens clauses m shape face d e l t u h k f =
+    let r = grows clauses t (root shape face d) e l h in
+    let same_tree : r.0 ≡ u = once clauses (root shape face e) r.0 u r.1 k in
+    let g = subst (λ x. Grown (answer_rows (trace t)) (loose_rows (trace t)) (answer_rows (trace x)) (loose_rows (trace x))) same_tree r.2 in
+    verdict-grown (call face) (call-IsCanonical face) m (answer_rows (trace t)) (loose_rows (trace t)) (answer_rows (trace u)) (loose_rows (trace u))
+    (λ x i. (leaves_under_call clauses shape face d t h x i).0)
+    (λ x i. (leaves_under_call clauses shape face e u k x (IsIn-left x (answer_rows (trace u)) (loose_rows (trace u)) i)).0)
+    g f

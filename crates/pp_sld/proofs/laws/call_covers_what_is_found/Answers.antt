@@ -1,0 +1,8 @@
+use Rattle.pp_sld.proofs.CallCovers.{leaves_under_call, leaves_of_width}
+use Rattle.pp_sld.proofs.laws.call_covers_what_is_found.Goals as goal
+
+pub returns-clause-covers : goal.returns-clause-covers
+returns-clause-covers c = leaves_under_call
+
+pub returns-clause-width : goal.returns-clause-width
+returns-clause-width c = leaves_of_width

@@ -1,0 +1,4 @@
+paint(door, red).
+paint(door, blue).
+paint(wall, red).
+?- paint(door, Colour) infers most.

@@ -1,0 +1,3 @@
+eq(a, a).
+eq(b, b).
+?- eq(X, Y) infers most.
