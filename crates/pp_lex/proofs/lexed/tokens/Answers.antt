@@ -1,5 +1,3 @@
-use Rattle.std.proofs.Common.{sym, subst}
-use Rattle.pp_language.specs.Tokens.{AreTokensOf}
 use Rattle.pp_lex.proofs.Collected.{tokens_on}
 use Rattle.pp_lex.proofs.lexed.tokens.Goals as goal
 
