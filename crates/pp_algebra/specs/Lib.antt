@@ -1,6 +1,7 @@
 pub mod Terms
 pub mod Rows
 pub mod Covers
+pub mod Members
 pub mod Canon
 pub mod Least
 pub mod Joins

@@ -5,3 +5,5 @@ pub mod Forms
 pub mod OneKind
 pub mod OneToken
 pub mod OneReading
+pub mod Saids
+pub mod WrittenOnce

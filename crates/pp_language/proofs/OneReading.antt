@@ -87,3 +87,7 @@ one_reading text ss us e f h g =
     let t = same_tokens text 0 h.last g.last h.tokens g.tokens (stops text h.last h.left e h.ends) (stops text g.last g.left f g.ends) h.are_tokens g.are_tokens in
     let s = same_sentences g.tokens ss us h.left g.left (subst (λ xs. FallInto xs ss h.left) t.0 h.fall_into) g.fall_into in
     (s.0, same_ending text g.last g.left e f (subst (λ xs. EndsAs text g.last xs e) s.1 (subst (λ n. EndsAs text n h.left e) t.1 h.ends)) g.ends)
+
+-- a text that ends behind its tokens has one list of them
+pub one_list : (text : Text) (j k : ℕ) (ts us : List Token) → IsLastGap (part text j (length text)) → IsLastGap (part text k (length text)) → AreTokensOf text 0 ts j → AreTokensOf text 0 us k → ts ≡ us
+one_list text j k ts us g h t u = (same_tokens text 0 j k ts us (stops text j [] clean (refl, g)) (stops text k [] clean (refl, h)) t u).0

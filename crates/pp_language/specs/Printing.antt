@@ -3,7 +3,7 @@ use Rattle.std.specs.Prelude.{ℕ, ℤ, pos, suc, ◌+ℤ◌, cond, nat_eq, List
 use Rattle.std.specs.Fmt.{decimal, signed_decimal}
 use Rattle.std.specs.List.{flat_map}
 use Rattle.std.specs.Ordering.{int_eq}
-use Rattle.std.specs.FinSet as set
+use Rattle.pp_algebra.specs.Members.{members}
 use Rattle.pp_algebra.specs.Terms.{Tree, int, node, variable, Trees, none, more}
 use Rattle.pp_algebra.specs.Rows.{Domain, Row}
 use Rattle.pp_language.specs.Texts.{Text}
@@ -55,8 +55,12 @@ intervals_of (n ∷ ns) = with_intervals n (intervals_of ns)
 abbrev pub interval_text : ℤ × ℤ → Text
 interval_text p = cond (int_eq p.0 p.1) (signed_decimal p.0) (signed_decimal p.0 ++ codes ".." ++ signed_decimal p.1)
 
+-- ascending integers as their intervals in brackets
+abbrev pub integers_text : List ℤ → Text
+integers_text ns = 91 ∷ joined (codes ", ") (map interval_text (intervals_of ns)) ++ 93 ∷ []
+
 abbrev pub domain_text : Domain → Text
-domain_text d = 91 ∷ joined (codes ", ") (map interval_text (intervals_of (set.items d))) ++ 93 ∷ []
+domain_text d = integers_text (members d)
 
 -- `_n :: ` and the domain
 abbrev pub ranged_text : ℕ → Domain → Text

@@ -7,6 +7,6 @@ mod laws;
 mod status;
 mod token;
 
-pub use laws::tokenisation_is_unique;
+pub use laws::{first_form_is_unique, tokenisation_is_unique};
 pub use status::Status;
 pub use token::{Kind, Token};

@@ -1,7 +1,7 @@
 -- What follows a configuration: the ways on from its selected goal, and where each leads.
 use Rattle.std.specs.Prelude.{◌≡◌, ℕ, ℤ, zero, suc, ◌⊎◌, List, [], ◌∷◌, ◌++◌, map, Option, Some, None}
 use Rattle.std.proofs.Common.{inl, inr}
-use Rattle.std.specs.FinSet as set
+use Rattle.pp_algebra.specs.Members.{members}
 use Rattle.pp_algebra.specs.Terms.{Tree, int, node, variable, Trees, none, more, put_all, count}
 use Rattle.pp_algebra.specs.Rows.{Domain, Domains, Pattern, domain_at}
 use Rattle.pp_algebra.specs.Solve.{Item, put_item, equations, IsSolved, HasNone}
@@ -65,7 +65,7 @@ built_in_way c before after items = record {
 -- the values of the first argument, ascending
 abbrev pub values_in : Option Domain → List ℤ
 values_in None = []
-values_in (Some d) = set.items d
+values_in (Some d) = members d
 
 abbrev pub values_of : List (Option Domain) → Trees ℕ → List ℤ
 values_of ds none = []
