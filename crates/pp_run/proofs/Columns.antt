@@ -1,7 +1,7 @@
 -- Lists of terms as columns, and the table of the places of a face's variables.
-use Rattle.std.proofs.Common.{◌≡◌, ℕ, zero, suc, ◌+◌, ◌<◌, true, false, Bool, List, [], ◌∷◌, ◌++◌, map, take, drop, length, append-nil, get_or, set, Option, Some, None, refl, ap, sym, ◌∙◌, subst, inl, inr, arith, replicate}
+use Rattle.std.proofs.Common.{◌≡◌, ℕ, zero, suc, ◌+◌, ◌<◌, true, false, Bool, List, [], ◌∷◌, ◌++◌, map, take, drop, length, append-nil, get_or, set, Option, Some, None, refl, ap, sym, ◌∙◌, subst, inl, inr, arith}
 use Rattle.std.specs.Prelude.{cond, ◌||◌, nat_eq, ltb}
-use Rattle.std.proofs.lemmas.List.{take_more, map_push, get_or-set_same, get_or-set_other, length-set, get_or_past, length_push, length-replicate, get_or-replicate, drop_all, take_all}
+use Rattle.std.proofs.lemmas.List.{take_more, map_push, get_or-set_same, get_or-set_other, length-set, get_or_past, length_push, drop_all, take_all}
 use Rattle.std.proofs.lemmas.Bool.{cases_eq, ltb-true, ltb-false}
 use Rattle.pp_algebra.specs.Terms.{Tree, int, node, variable, Trees, count, put, put_all, variables, variables_all}
 use Rattle.pp_algebra.specs.Covers.{IsIn}
@@ -101,11 +101,7 @@ different v w h = go (nat_eq v w) refl
     go true e = absurd (h (sym (nat_is v w e)))
     go false e = refl
 
--- a variable that has a place already
-pub places_kept : (n : ℕ) (vs : List ℕ) (places : List (Option ℕ)) (v k : ℕ) → v < n → ArePlaces n vs places → get_or places v None ≡ Some k → ArePlaces n (firsts nat_eq vs (v ∷ [])) places
-places_kept n vs places v k l h e = rw (place_in-some vs v k (sym (h.each v l) ∙ e)).0 h
-
--- and one that is new
+-- the table once a new variable has its place
 pub places_more : (n : ℕ) (vs : List ℕ) (places : List (Option ℕ)) (v : ℕ) → v < n → ArePlaces n vs places → get_or places v None ≡ None → ArePlaces n (firsts nat_eq vs (v ∷ [])) (set places v (Some (length vs))) × (length (firsts nat_eq vs (v ∷ [])) ≡ length vs + 1)
 places_more n vs places v l h e =
     let new = place_in-none vs v (sym (h.each v l) ∙ e) in
@@ -129,13 +125,6 @@ pub taken_variable : (old new : List (Option ℕ)) (n m v : ℕ) → v < length 
 taken_variable old new n m v l e f g = λ ws h k.
     let r = places_more (length old) ws old v l h e in
     (subst (ArePlaces (length old) (firsts nat_eq ws (v ∷ []))) (sym (f ∙ ap (λ j. set old v (Some j)) k)) r.0, g ∙ ap (λ j. j + 1) k ∙ sym r.1)
-
-pub kept_variable : (old : List (Option ℕ)) (n v k : ℕ) → v < length old → get_or old v None ≡ Some k → TakesIn old n (v ∷ []) old n
-kept_variable old n v k l e = λ ws h j. (places_kept (length old) ws old v k l h e, rw (place_in-some ws v k (sym (h.each v l) ∙ e)).0 j)
-
--- no places are given at first
-pub no_places : (n : ℕ) → ArePlaces n [] (replicate n None)
-no_places n = record { size = length-replicate n None; each = λ v l. get_or-replicate n v None None l }
 
 pub placed_within : (places : List (Option ℕ)) (t : Tree ℕ) (k n : ℕ) → ((v k : ℕ) → get_or places v None ≡ Some k → k < n) → Some k ≡ place_at places t → k < n
 placed_within places (int m) k n h e = absurd (cc)

@@ -95,9 +95,6 @@ module _ (clauses : Program) (n : ℕ) (named : List Text) (p : Predicate) (argu
         }
 
     module _ (given : Row) (h : HasVerdict clauses depth (asked p arguments) (face store (asked p arguments).goal) (narrow given)) where
-      narrowed_state : State
-      narrowed_state = narrowed (asked p arguments ∷ []) b.state 1 (asked p arguments) [] given
-
       new_store : apply b.state.store (asked p arguments).goal given ≡ apply store (asked p arguments).goal given
       new_store = ap (λ s. apply s (asked p arguments).goal given) b.has_store
 

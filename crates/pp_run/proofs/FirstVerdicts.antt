@@ -1,5 +1,5 @@
 -- The verdict of a goal with `most` that leaves no loose ends.
-use Rattle.std.proofs.Common.{◌≡◌, ℕ, true, false, Bool, List, [], ◌∷◌, ◌++◌, Some, None, refl, ap, sym, ◌∙◌, append-nil, inl, arith}
+use Rattle.std.proofs.Common.{◌≡◌, ℕ, true, false, Bool, List, [], ◌∷◌, ◌++◌, Some, refl, ap, sym, ◌∙◌, append-nil, inl, arith}
 use Rattle.std.specs.Prelude.{cond}
 use Rattle.pp_algebra.specs.Rows.{Row}
 use Rattle.pp_algebra.specs.Canon.{same_row}
@@ -11,7 +11,7 @@ use Rattle.pp_sld.specs.Leaves.{call, root, HasLeaves}
 use Rattle.pp_propagation.specs.Turns.{HasVerdict}
 use Rattle.pp_resolve.specs.Facts.{HaveWidth}
 use Rattle.pp_run.specs.RunOutcomes.{asked}
-use Rattle.pp_sld.specs.Verdicts.{Verdict, fail, same, narrow, unfinished, most, verdict}
+use Rattle.pp_sld.specs.Verdicts.{Verdict, same, narrow, unfinished, most, verdict}
 use Rattle.pp_algebra.proofs.SameRow.{same_row-sound, same_row-itself}
 
 pub not_same : (r q : Row) → (r ≡ q → ⊥) → same_row r q ≡ false
@@ -23,10 +23,6 @@ not_same r q h = go (same_row r q) refl
 
 pub is_same : (r q : Row) → r ≡ q → same_row r q ≡ true
 is_same r q e = ap (same_row r) (sym e) ∙ same_row-itself r
-
-pub fails : (call : Row) (A : List Row) → least_list A ≡ None → verdict most call A [] ≡ fail
-fails call [] e = refl
-fails call (a ∷ A) e = absurd (cc)
 
 pub stays : (call : Row) (A : List Row) (given : Row) → least_list A ≡ Some given → given ≡ call → verdict most call A [] ≡ same
 stays call [] given e f = absurd (cc)
