@@ -55,8 +55,12 @@ intervals_of (n ∷ ns) = with_intervals n (intervals_of ns)
 abbrev pub interval_text : ℤ × ℤ → Text
 interval_text p = cond (int_eq p.0 p.1) (signed_decimal p.0) (signed_decimal p.0 ++ codes ".." ++ signed_decimal p.1)
 
+-- ascending integers as their intervals in brackets
+abbrev pub integers_text : List ℤ → Text
+integers_text ns = 91 ∷ joined (codes ", ") (map interval_text (intervals_of ns)) ++ 93 ∷ []
+
 abbrev pub domain_text : Domain → Text
-domain_text d = 91 ∷ joined (codes ", ") (map interval_text (intervals_of (members d))) ++ 93 ∷ []
+domain_text d = integers_text (members d)
 
 -- `_n :: ` and the domain
 abbrev pub ranged_text : ℕ → Domain → Text
