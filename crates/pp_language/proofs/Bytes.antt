@@ -1,5 +1,5 @@
 -- The first bytes of tokens: what each class of them leaves out.
-use Rattle.std.proofs.Common.{◌≡◌, ℕ, ◌<◌, ◌≤◌, Bool, true, false, ◌&&◌, ◌||◌, nat_eq, nat_le, List, [], ◌∷◌, ◌⊎◌, inl, inr, ⊎_elim, refl, arith}
+use Rattle.std.proofs.Common.{◌≡◌, ℕ, ◌<◌, ◌≤◌, Bool, true, false, ◌||◌, nat_eq, nat_le, List, [], ◌∷◌, ◌⊎◌, inl, inr, ⊎_elim, refl, arith}
 use Rattle.std.specs.List.{list_any}
 use Rattle.std.proofs.lemmas.Bool.{and_parts, and_left, and_right, or_cases, or_from, or_left, or_right, leb-true, lt-leb, eqb-true, ne_eqb}
 use Rattle.pp_language.specs.Texts.{is_between, is_digit, is_lower, is_upper, is_underscore, is_word}
@@ -89,6 +89,6 @@ lower_is_word b h = or_left (is_lower b || is_upper b || is_digit b) (is_undersc
 
 pub variable_is_word : (b : ℕ) → begins_variable b ≡ true → is_word b ≡ true
 variable_is_word b h = ⊎_elim
-  (λ e. or_left (is_lower b || is_upper b || is_digit b) (is_underscore b) (or_left (is_lower b || is_upper b) (is_digit b) (or_right (is_lower b) (is_upper b) e)))
-  (λ e. or_right (is_lower b || is_upper b || is_digit b) (is_underscore b) e)
-  (or_cases (is_upper b) (is_underscore b) h)
+    (λ e. or_left (is_lower b || is_upper b || is_digit b) (is_underscore b) (or_left (is_lower b || is_upper b) (is_digit b) (or_right (is_lower b) (is_upper b) e)))
+    (λ e. or_right (is_lower b || is_upper b || is_digit b) (is_underscore b) e)
+    (or_cases (is_upper b) (is_underscore b) h)

@@ -1,14 +1,14 @@
 -- Which texts have the form of a token, by their first byte.
-use Rattle.std.proofs.Common.{◌≡◌, ℕ, zero, suc, ◌<◌, ◌≤◌, Bool, true, false, not, ◌&&◌, ◌||◌, cond, nat_eq, nat_le, List, [], ◌∷◌, ◌++◌, length, take, refl, ap, sym, ◌∙◌, subst, ◌⊎◌, inl, inr, ⊎_elim, lit<, arith}
+use Rattle.std.proofs.Common.{◌≡◌, ℕ, zero, suc, Bool, true, false, ◌&&◌, ◌||◌, nat_eq, List, [], ◌∷◌, refl, sym, ◌∙◌, subst, lit<, arith}
 use Rattle.std.specs.Prelude.{codes, All}
 use Rattle.std.specs.List.{list_all, list_any}
-use Rattle.std.proofs.lemmas.Bool.{and_parts, and_left, and_right, or_cases, or_from, or_parts, or_left, or_right, both_ways, eqb-true, false_from_ne_true, true_from_ne_false}
+use Rattle.std.proofs.lemmas.Bool.{and_left, or_from, or_parts, both_ways, false_from_ne_true, true_from_ne_false}
 use Rattle.std.proofs.lemmas.Slice.Eq.{bytes_eq-Decides}
 use Rattle.pp_language.specs.declared.token.Kind.{Kind}
 use Rattle.pp_language.specs.declared.token.Kind.TheVariants.{Integer, Atom, Quoted, Infers, Variable, Left, Right, OpenSquare, CloseSquare, Comma, Point, Range, Neck, Ask, Equals, InDomain, Less, AtMost, Equal, Differ}
-use Rattle.pp_language.specs.Texts.{Text, same_text, is_digit, is_lower, is_upper, is_underscore, is_word}
+use Rattle.pp_language.specs.Texts.{Text, same_text, is_digit, is_lower, is_word}
 use Rattle.pp_language.specs.Kinds.{are_digits, is_number_text, is_word_from, is_variable_text, is_quoted_rest, is_quoted, spells, has_form}
-use Rattle.pp_language.proofs.Bytes.{begins_number, begins_variable, mark_bytes, begins_mark, Begins, digit_begins, lower_begins, variable_begins, minus_begins, quote_begins}
+use Rattle.pp_language.proofs.Bytes.{begins_variable, mark_bytes, begins_mark, Begins, digit_begins, lower_begins, variable_begins, minus_begins, quote_begins}
 
 -- the texts of the tokens that have only one
 abbrev pub marks : List Text

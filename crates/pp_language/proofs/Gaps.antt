@@ -1,8 +1,8 @@
 -- Runs over gaps: over two parts of a text one after another, and where a run is broken.
-use Rattle.std.proofs.Common.{◌≡◌, ℕ, ◌+◌, ◌<◌, ◌≤◌, List, [], ◌∷◌, ◌++◌, length, take, drop, get_or, refl, ap, sym, ◌∙◌, arith}
+use Rattle.std.proofs.Common.{◌≡◌, ℕ, ◌+◌, ◌<◌, ◌≤◌, [], ◌∷◌, ◌++◌, length, take, drop, get_or, refl, ap, ◌∙◌}
 use Rattle.std.proofs.lemmas.List.{take_more}
 use Rattle.pp_language.specs.Texts.{Text, part}
-use Rattle.pp_language.specs.Tokens.{Gap, clear, broken, gap_step, gap_from, IsGap, IsLastGap}
+use Rattle.pp_language.specs.Tokens.{Gap, clear, broken, gap_step, gap_from, IsGap}
 use Rattle.pp_language.proofs.Parts.{take-split, part-split}
 
 pub gap_from-append : (g : Gap) (bs cs : Text) → gap_from g (bs ++ cs) ≡ gap_from (gap_from g bs) cs

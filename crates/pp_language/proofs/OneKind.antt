@@ -1,5 +1,5 @@
 -- A text spells a token of one kind at most.
-use Rattle.std.proofs.Common.{◌≡◌, ℕ, Bool, true, false, not, ◌&&◌, ◌||◌, cond, nat_eq, List, [], ◌∷◌, refl, ap, sym, ◌∙◌, subst, ⊎_elim}
+use Rattle.std.proofs.Common.{◌≡◌, ℕ, true, not, ◌&&◌, cond, nat_eq, [], ◌∷◌, refl, sym, ◌∙◌, subst, ⊎_elim}
 use Rattle.std.specs.Prelude.{codes}
 use Rattle.std.specs.List.{list_all}
 use Rattle.std.proofs.lemmas.Bool.{and_parts, or_cases, or_from, or_left, or_right, eqb-true, not-true, cond-true, cond-false}
@@ -7,7 +7,7 @@ use Rattle.pp_language.specs.declared.token.Kind.{Kind}
 use Rattle.pp_language.specs.declared.token.Kind.TheVariants.{Integer, Atom, Quoted, Infers, Variable, Left, Right, OpenSquare, CloseSquare, Comma, Point, Range, Neck, Ask, Equals, InDomain, Less, AtMost, Equal, Differ}
 use Rattle.pp_language.specs.Texts.{Text, same_text, is_digit, is_lower, is_word}
 use Rattle.pp_language.specs.Kinds.{are_digits, is_number_text, is_word_from, is_quoted_rest, spells}
-use Rattle.pp_language.proofs.Bytes.{begins_number, begins_variable, Begins, lower_begins, variable_begins}
+use Rattle.pp_language.proofs.Bytes.{begins_number, begins_variable, lower_begins, variable_begins}
 use Rattle.pp_language.proofs.Forms.{same_text-true}
 
 mark_kind : Text → Kind
@@ -29,9 +29,9 @@ kind_of (b ∷ bs) =
 
 pub begins_if_number : (b : ℕ) (bs : Text) → is_number_text (b ∷ bs) ≡ true → begins_number b ≡ true
 begins_if_number b bs h = ⊎_elim
-  (λ e. or_left (is_digit b) (nat_eq b 45) (and_parts (is_digit b) (list_all is_digit bs) e).0)
-  (λ e. or_right (is_digit b) (nat_eq b 45) (and_parts (nat_eq b 45) (are_digits bs) e).0)
-  (or_cases (are_digits (b ∷ bs)) (nat_eq b 45 && are_digits bs) h)
+    (λ e. or_left (is_digit b) (nat_eq b 45) (and_parts (is_digit b) (list_all is_digit bs) e).0)
+    (λ e. or_right (is_digit b) (nat_eq b 45) (and_parts (nat_eq b 45) (are_digits bs) e).0)
+    (or_cases (are_digits (b ∷ bs)) (nat_eq b 45 && are_digits bs) h)
 
 number_is : (bs : Text) → is_number_text bs ≡ true → kind_of bs ≡ Integer
 unfolding kind_of

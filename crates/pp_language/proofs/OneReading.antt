@@ -1,10 +1,10 @@
 -- A text has one list of sentences and one ending.
-use Rattle.std.proofs.Common.{◌≡◌, ℕ, ◌<◌, ◌≤◌, Bool, true, false, List, [], ◌∷◌, ◌++◌, length, refl, ap, sym, ◌∙◌, subst, ⊎_elim, arith}
+use Rattle.std.proofs.Common.{◌≡◌, ℕ, ◌<◌, ◌≤◌, true, List, [], ◌∷◌, ◌++◌, length, refl, ap, sym, ◌∙◌, subst, ⊎_elim, arith}
 use Rattle.std.proofs.lemmas.Bool.{cases_order}
 use Rattle.pp_language.specs.declared.token.Kind.TheVariants.{Point}
 use Rattle.pp_language.specs.declared.token.Token.{Token}
 use Rattle.pp_language.specs.Texts.{Text, part}
-use Rattle.pp_language.specs.Tokens.{Gap, clear, broken, gap_from, ends_gap, IsGap, IsLastGap, IsTokenOf, AreTokensOf, IsBadAfter}
+use Rattle.pp_language.specs.Tokens.{clear, broken, gap_from, ends_gap, IsGap, IsLastGap, IsTokenOf, AreTokensOf, IsBadAfter}
 use Rattle.pp_language.specs.Sentences.{Ending, clean, cut, bad, NoPoint, FallInto, EndsAs, AreSentences}
 use Rattle.pp_language.proofs.Gaps.{gap_from-part}
 use Rattle.pp_language.proofs.OneToken.{no_gap_past, same_token}
@@ -21,12 +21,12 @@ no_last_gap_past text i t l g k last =
 
 no_bad_past : (text : Text) (i : ℕ) (t : Token) → i ≤ t.first → IsGap (part text i t.first) → IsTokenOf text t → IsBadAfter text i → ⊥
 no_bad_past text i t l g k b = ⊎_elim
-  (λ (e : b.place ≡ t.first). b.no_token t (sym e) k)
-  (λ s. ⊎_elim
+    (λ (e : b.place ≡ t.first). b.no_token t (sym e) k)
+    (λ s. ⊎_elim
     (λ (low : b.place < t.first). b.no_gap t.first low (omega (arith, k.some, k.within)) (sym (gap_from-part text i b.place t.first b.before (omega arith) b.gap) ∙ g))
     (λ (low : t.first < b.place). let e = no_gap_past text i b.place t l g k low in let f = b.gap in cc)
     s)
-  (cases_order b.place t.first)
+    (cases_order b.place t.first)
 
 stops : (text : Text) (i : ℕ) (left : List Token) (e : Ending) → EndsAs text i left e → Stops text i
 unfolding Stops

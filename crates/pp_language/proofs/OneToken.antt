@@ -1,11 +1,11 @@
 -- At most one token follows a gap, and no gap goes on into a token.
-use Rattle.std.proofs.Common.{◌≡◌, ℕ, zero, suc, ◌+◌, ◌-◌, ◌<◌, ◌≤◌, Bool, true, false, ◌||◌, cond, nat_eq, List, [], ◌∷◌, length, take, drop, refl, ap, sym, ◌∙◌, subst, ⊎_elim, arith, length-drop}
+use Rattle.std.proofs.Common.{◌≡◌, ℕ, zero, suc, ◌-◌, ◌<◌, ◌≤◌, true, false, ◌||◌, nat_eq, [], ◌∷◌, length, take, drop, refl, ap, sym, ◌∙◌, subst, ⊎_elim, arith, length-drop}
 use Rattle.std.proofs.lemmas.Bool.{both_ways, or_left, or_cases, eqb-true, cond-false, cases_order, false_from_ne_true}
 use Rattle.pp_language.specs.declared.token.Kind.{Kind}
 use Rattle.pp_language.specs.declared.token.Token.{Token}
 use Rattle.pp_language.specs.Texts.{Text, is_white, part}
 use Rattle.pp_language.specs.Kinds.{is_number_text, spells, has_form}
-use Rattle.pp_language.specs.Tokens.{Gap, clear, in_line, at_slash, broken, after_clear, gap_from, IsGap, IsTokenOf}
+use Rattle.pp_language.specs.Tokens.{Gap, clear, broken, after_clear, gap_from, IsGap, IsTokenOf}
 use Rattle.pp_language.proofs.Forms.{any_form, spells-any}
 use Rattle.pp_language.proofs.Gaps.{gap_from-broken, gap_from-part}
 use Rattle.pp_language.proofs.OneKind.{same_kind}
@@ -15,12 +15,12 @@ begins_none a b bs none e h = both_ways _ none (subst (λ c. any_form (c ∷ bs)
 
 begins_white : (b : ℕ) (bs : Text) → is_white b ≡ true → any_form (b ∷ bs) ≡ true → ⊥
 begins_white b bs w h = ⊎_elim
-  (λ x. ⊎_elim
+    (λ x. ⊎_elim
     (λ y. ⊎_elim (λ z. begins_none 32 b bs refl z h) (λ z. begins_none 9 b bs refl z h) (or_cases (nat_eq b 32) (nat_eq b 9) y))
     (λ y. begins_none 10 b bs refl y h)
     (or_cases (nat_eq b 32 || nat_eq b 9) (nat_eq b 10) x))
-  (λ x. begins_none 13 b bs refl x h)
-  (or_cases (nat_eq b 32 || nat_eq b 9 || nat_eq b 10) (nat_eq b 13) w)
+    (λ x. begins_none 13 b bs refl x h)
+    (or_cases (nat_eq b 32 || nat_eq b 9 || nat_eq b 10) (nat_eq b 13) w)
 
 -- the first byte of a token begins no gap
 breaks : (b : ℕ) (bs : Text) → any_form (b ∷ bs) ≡ true → after_clear b ≡ broken
@@ -51,12 +51,12 @@ gap_is_not_broken g e f = cc
 module _ (text : Text) (i : ℕ) (t u : Token) (lt : i ≤ t.first) (lu : i ≤ u.first) (gt : IsGap (part text i t.first)) (gu : IsGap (part text i u.first)) (kt : IsTokenOf text t) (ku : IsTokenOf text u) where
   same_first : t.first ≡ u.first
   same_first = ⊎_elim
-    (λ e. e)
-    (λ s. ⊎_elim
+      (λ e. e)
+      (λ s. ⊎_elim
       (λ (l : t.first < u.first). absurd (gap_is_not_broken _ gu (no_gap_past text i u.first t lt gt kt l)))
       (λ (l : u.first < t.first). absurd (gap_is_not_broken _ gt (no_gap_past text i t.first u lu gu ku l)))
       s)
-    (cases_order t.first u.first)
+      (cases_order t.first u.first)
 
 no_longer : (text : Text) (t u : Token) → IsTokenOf text t → IsTokenOf text u → t.first ≡ u.first → t.last < u.last → ⊥
 no_longer text t u kt ku e l =
@@ -65,12 +65,12 @@ no_longer text t u kt ku e l =
 
 same_last : (text : Text) (t u : Token) → IsTokenOf text t → IsTokenOf text u → t.first ≡ u.first → t.last ≡ u.last
 same_last text t u kt ku e = ⊎_elim
-  (λ f. f)
-  (λ s. ⊎_elim
+    (λ f. f)
+    (λ s. ⊎_elim
     (λ (l : t.last < u.last). absurd (no_longer text t u kt ku e l))
     (λ (l : u.last < t.last). absurd (no_longer text u t ku kt (sym e) l))
     s)
-  (cases_order t.last u.last)
+    (cases_order t.last u.last)
 
 token_of : Kind → ℕ → ℕ → Token
 token_of k i j = record { kind = k; first = i; last = j }

@@ -1,10 +1,10 @@
 -- The words of a text of the first form determine its form.
-use Rattle.std.proofs.Common.{◌≡◌, Bool, true, false, not, ◌&&◌, IsTrue, List, [], ◌∷◌, ◌++◌, length, nat_le, refl, ap, sym, ◌∙◌, append_assoc}
+use Rattle.std.proofs.Common.{◌≡◌, Bool, true, ◌&&◌, List, [], ◌∷◌, ◌++◌, length, nat_le, refl, ap, sym, ◌∙◌, append_assoc}
 use Rattle.std.specs.Prelude.{codes}
 use Rattle.std.specs.List.{flat_map, list_all}
 use Rattle.std.proofs.lemmas.Bool.{and_parts}
 use Rattle.pp_language.specs.declared.token.Kind.{Kind}
-use Rattle.pp_language.specs.declared.token.Kind.TheVariants.{Atom, Quoted, Infers, Left, Right, Comma, Point, Ask}
+use Rattle.pp_language.specs.declared.token.Kind.TheVariants.{Atom, Infers, Left, Right, Comma, Ask}
 use Rattle.pp_language.specs.FirstForm.{Word, word, Said, more_words, argument_words, said_words, FirstText, point, fact_words, goal_words, first_words, is_atom_kind, is_argument_kind, is_name_kind, is_said, is_first}
 
 -- the word that comes next is no opening parenthesis
@@ -79,7 +79,7 @@ fact_no_goal ok s t r h e = no_goal ok s t (point ∷ [] ++ r) _ h (sym (append_
 
 -- the facts that some words begin with are the first of the facts that these words write
 pub facts-split : (ok : Kind → Bool) (xs ys : List Said) (rest : List Word) (g : Said) → list_all (is_said ok) xs ≡ true → flat_map fact_words xs ++ rest ≡ flat_map fact_words ys ++ goal_words g
-  → (zs : List Said) × (ys ≡ xs ++ zs) × (rest ≡ flat_map fact_words zs ++ goal_words g)
+    → (zs : List Said) × (ys ≡ xs ++ zs) × (rest ≡ flat_map fact_words zs ++ goal_words g)
 facts-split ok [] ys rest g h e = (ys, refl, e)
 facts-split ok (x ∷ xs) [] rest g h e =
     absurd (fact_no_goal ok x g (flat_map fact_words xs ++ rest) (and_parts (is_said ok x) _ h).0 (sym (append_assoc (fact_words x) (flat_map fact_words xs) rest) ∙ e))
