@@ -20,4 +20,5 @@ pub mod Resume
 pub mod Restrict
 pub mod Solving
 pub mod SameRow
+pub mod MembersListed
 pub mod Worked

@@ -1,9 +1,11 @@
 -- The laws of rows, covering, generalisation and solving, as statements.
-use Rattle.std.specs.Prelude.{◌≡◌, ℕ, ◌⊎◌, ◌↔◌, true, List, [], ◌∷◌, ◌++◌, map, Option, nat_eq}
+use Rattle.std.specs.Prelude.{◌≡◌, ℕ, ℤ, ◌<ℤ◌, ◌⊎◌, ◌↔◌, true, List, [], ◌∷◌, ◌++◌, map, AllPairs, Option, nat_eq}
+use Rattle.std.specs.FinSet as set
 use Rattle.std.proofs.Common.{inl, inr}
 use Rattle.pp_algebra.specs.Terms.{Trees, count, put_all, variables_all}
 use Rattle.pp_algebra.specs.Rows.{Domains, Pattern, Row, domain_at, pattern_of, Domain, IsCanonical, IsRow, AreWide}
 use Rattle.pp_algebra.specs.Covers.{Covers, IsIn}
+use Rattle.pp_algebra.specs.Members.{IsInteger, members}
 use Rattle.pp_algebra.specs.Canon.{canon, same_row}
 use Rattle.pp_algebra.specs.Least.{least_row}
 use Rattle.pp_algebra.specs.Joins.{Joins, rows_of, joined, AllOf, AreWideAs, SameRows}
@@ -24,6 +26,13 @@ CoversBothWays = (r q : Row) → IsCanonical r → IsCanonical q → RowCovers r
 
 abbrev pub SameIsEqual : Type 0
 SameIsEqual = (r q : Row) → (same_row r q ≡ true) ↔ (r ≡ q)
+
+-- the members of a domain ascend, and they are the integers of the language that lie in it
+abbrev pub MembersAscend : Type 0
+MembersAscend = (d : Domain) → AllPairs (λ n m. n <ℤ m) (members d)
+
+abbrev pub MembersAreContained : Type 0
+MembersAreContained = (d : Domain) (n : ℤ) → IsIn n (members d) ↔ (IsInteger n × (set.contains d n ≡ true))
 
 -- the least generalisation is canonical, covers each row of as many columns, and is covered by whatever covers each
 abbrev pub LeastIsCanonical : Type 0

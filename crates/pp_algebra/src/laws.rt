@@ -1,6 +1,6 @@
 //! The laws that make the definitions trustworthy.
 ghost use Rattle.std.specs.Prelude.{ℕ, ◌⊎◌};
-ghost use Rattle.pp_algebra.specs.Laws.{CoversItself, CoversThrough, CoversBothWays, SameIsEqual, LeastIsCanonical, LeastCovers, LeastIsLeast, LeastOfSame, LeastCommutes, LeastAssociates, LeastIsIdempotent, LeastOfMore, LeastInParts, JoinsGiveLeast, SolvedOnce, SolvedCovers, SolvedInAnyOrder, SolvedWithMore, SolvedInStages, SolvedForSome, NoneForAny, RowsSolve, PairsSolve, RowsAlwaysSolve, PairsAlwaysSolve};
+ghost use Rattle.pp_algebra.specs.Laws.{CoversItself, CoversThrough, CoversBothWays, SameIsEqual, MembersAscend, MembersAreContained, LeastIsCanonical, LeastCovers, LeastIsLeast, LeastOfSame, LeastCommutes, LeastAssociates, LeastIsIdempotent, LeastOfMore, LeastInParts, JoinsGiveLeast, SolvedOnce, SolvedCovers, SolvedInAnyOrder, SolvedWithMore, SolvedInStages, SolvedForSome, NoneForAny, RowsSolve, PairsSolve, RowsAlwaysSolve, PairsAlwaysSolve};
 
 /// Covering is an order: each row covers itself, what covers a covering row covers what that covers, and
 /// canonical rows that cover each other are equal.
@@ -8,6 +8,13 @@ pub fn covering_is_an_order()
     ensures itself { CoversItself }
     ensures through { CoversThrough }
     ensures both_ways { CoversBothWays }
+{}
+
+/// The members of a domain are listed in ascending order, each once: exactly the integers from
+/// -1,000,000,000,000 to 1,000,000,000,000 that the set contains.
+pub fn members_are_listed()
+    ensures ascend { MembersAscend }
+    ensures contained { MembersAreContained }
 {}
 
 /// The least generalisation of rows is canonical, covers each of them, and is covered by whatever covers each

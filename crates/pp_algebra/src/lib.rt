@@ -9,7 +9,7 @@ mod laws;
 pub use examples::worked_examples;
 pub use laws::{
     covering_is_an_order, generalisation_has_no_order, generalisation_is_least,
-    joins_give_the_least_generalisation, same_row_is_equality, solving_covers_all_that_meets,
-    solving_ends, solving_goes_in_stages, solving_has_no_order, solving_is_unique,
-    solving_restricts,
+    joins_give_the_least_generalisation, members_are_listed, same_row_is_equality,
+    solving_covers_all_that_meets, solving_ends, solving_goes_in_stages, solving_has_no_order,
+    solving_is_unique, solving_restricts,
 };

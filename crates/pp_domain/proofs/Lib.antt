@@ -10,3 +10,4 @@ pub mod Operations
 pub mod Without
 pub mod Union
 pub mod Equal
+pub mod MembersListed

@@ -7,3 +7,4 @@ pub mod OneToken
 pub mod OneReading
 pub mod Saids
 pub mod WrittenOnce
+pub mod WorkedExamples

@@ -1,10 +1,10 @@
 -- The words of a text of the first form determine its form.
-use Rattle.std.proofs.Common.{◌≡◌, Bool, true, false, not, ◌&&◌, IsTrue, List, [], ◌∷◌, ◌++◌, length, nat_le, refl, ap, sym, ◌∙◌, append_assoc}
+use Rattle.std.proofs.Common.{◌≡◌, Bool, true, ◌&&◌, List, [], ◌∷◌, ◌++◌, length, nat_le, refl, ap, sym, ◌∙◌, append_assoc}
 use Rattle.std.specs.Prelude.{codes}
 use Rattle.std.specs.List.{flat_map, list_all}
 use Rattle.std.proofs.lemmas.Bool.{and_parts}
 use Rattle.pp_language.specs.declared.token.Kind.{Kind}
-use Rattle.pp_language.specs.declared.token.Kind.TheVariants.{Atom, Quoted, Infers, Left, Right, Comma, Point, Ask}
+use Rattle.pp_language.specs.declared.token.Kind.TheVariants.{Atom, Infers, Left, Right, Comma, Ask}
 use Rattle.pp_language.specs.FirstForm.{Word, word, Said, more_words, argument_words, said_words, FirstText, point, fact_words, goal_words, first_words, is_atom_kind, is_argument_kind, is_name_kind, is_said, is_first}
 
 -- the word that comes next is no opening parenthesis

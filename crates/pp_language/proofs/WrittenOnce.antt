@@ -1,6 +1,6 @@
 -- A text of the first form writes one program.
 use Rattle.std.proofs.Common.{◌≡◌, ℕ, Bool, true, false, List, [], ◌∷◌, length, map, refl, ap, sym, ◌∙◌, subst}
-use Rattle.std.specs.Prelude.{cond, ◌&&◌}
+use Rattle.std.specs.Prelude.{◌&&◌}
 use Rattle.std.specs.List.{list_all}
 use Rattle.pp_language.specs.declared.token.Token.{Token}
 use Rattle.pp_language.specs.Texts.{Text, is_white, part}

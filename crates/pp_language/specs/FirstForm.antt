@@ -1,13 +1,11 @@
 -- The first form of a text: facts, and one query of one goal with `most`. White space stands between its tokens and no comments.
 use Rattle.std.specs.Prelude.{ℕ, Bool, true, false, not, ◌&&◌, ◌||◌, nat_eq, nat_le, List, [], ◌∷◌, ◌++◌, length, codes}
 use Rattle.std.specs.List.{flat_map, list_all}
-use Rattle.pp_sld.specs.Verdicts.{most}
 use Rattle.pp_language.specs.declared.token.Kind.{Kind}
 use Rattle.pp_language.specs.declared.token.Kind.TheVariants.{Atom, Quoted, Infers, Variable, Left, Right, Comma, Point, Ask}
 use Rattle.pp_language.specs.declared.token.Token.{Token}
 use Rattle.pp_language.specs.Texts.{Text, same_text, part}
 use Rattle.pp_language.specs.Kinds.{unquoted}
-use Rattle.pp_language.specs.Programs.{infers}
 
 -- a token by its kind and its text
 pub record Word : Type 0 where

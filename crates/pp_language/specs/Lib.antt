@@ -9,3 +9,4 @@ pub mod Printing
 pub mod Answers
 pub mod FirstForm
 pub mod FirstMeaning
+pub mod Examples

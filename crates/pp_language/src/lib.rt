@@ -3,10 +3,12 @@
 //! The crate is read by contracts: beside a few plain types its functions have no code, and each one's contract is a law.
 #![tactic(auto)]
 
+mod examples;
 mod laws;
 mod status;
 mod token;
 
+pub use examples::worked_examples;
 pub use laws::{first_form_is_unique, tokenisation_is_unique};
 pub use status::Status;
 pub use token::{Kind, Token};
