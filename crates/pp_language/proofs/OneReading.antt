@@ -91,3 +91,9 @@ one_reading text ss us e f h g =
 -- a text that ends behind its tokens has one list of them
 pub one_list : (text : Text) (j k : ℕ) (ts us : List Token) → IsLastGap (part text j (length text)) → IsLastGap (part text k (length text)) → AreTokensOf text 0 ts j → AreTokensOf text 0 us k → ts ≡ us
 one_list text j k ts us g h t u = (same_tokens text 0 j k ts us (stops text j [] clean (refl, g)) (stops text k [] clean (refl, h)) t u).0
+
+-- a text that ends behind its tokens has no bad place
+pub no_bad_end : (text : Text) (j k : ℕ) (ts us : List Token) → IsBadAfter text j → IsLastGap (part text k (length text)) → AreTokensOf text 0 ts j → AreTokensOf text 0 us k → ⊥
+no_bad_end text j k ts us b g t u =
+    let e = same_tokens text 0 j k ts us (stops text j [] bad b) (stops text k [] clean (refl, g)) t u in
+    last_gap_and_bad text k g (subst (IsBadAfter text) e.1 b)

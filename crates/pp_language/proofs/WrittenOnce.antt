@@ -4,11 +4,11 @@ use Rattle.std.specs.Prelude.{◌&&◌}
 use Rattle.std.specs.List.{list_all}
 use Rattle.pp_language.specs.declared.token.Token.{Token}
 use Rattle.pp_language.specs.Texts.{Text, is_white, part}
-use Rattle.pp_language.specs.Tokens.{clear, gap_from, ends_gap, IsLastGap, AreTokensOf}
+use Rattle.pp_language.specs.Tokens.{clear, gap_from, ends_gap, IsLastGap, AreTokensOf, IsBadAfter}
 use Rattle.pp_language.specs.Programs.{Written}
 use Rattle.pp_language.specs.FirstForm.{word_of}
 use Rattle.pp_language.specs.FirstMeaning.{AreGapsWhite, written_by, IsFirstForm}
-use Rattle.pp_language.proofs.OneReading.{one_list}
+use Rattle.pp_language.proofs.OneReading.{one_list, no_bad_end}
 use Rattle.pp_language.proofs.Saids.{first_words-is}
 
 white_first : (b : ℕ) (bs : Text) → (is_white b && list_all is_white bs) ≡ true → (is_white b ≡ true) × (list_all is_white bs ≡ true)
@@ -26,7 +26,7 @@ white_end : (text : Text) (i j : ℕ) (ts : List Token) → AreTokensOf text i t
 white_end text i j [] t g = subst (λ n. list_all is_white (part text n (length text)) ≡ true) t g
 white_end text i j (u ∷ ts) t g = white_end text u.last j ts t.3 g.1
 
-last_gap : (text : Text) (w : Written) → (f : IsFirstForm text w) → IsLastGap (part text f.last (length text))
+pub last_gap : (text : Text) (w : Written) → (f : IsFirstForm text w) → IsLastGap (part text f.last (length text))
 last_gap text w f = ap ends_gap (white_is_gap (part text f.last (length text)) (white_end text 0 f.last f.tokens f.are_tokens f.gaps))
 
 pub written_once : (text : Text) (w v : Written) → IsFirstForm text w → IsFirstForm text v → w ≡ v
@@ -34,3 +34,10 @@ written_once text w v f g =
     let t = one_list text f.last g.last f.tokens g.tokens (last_gap text w f) (last_gap text v g) f.are_tokens g.are_tokens in
     let form = first_words-is f.form g.form f.is_first g.is_first (sym f.words ∙ ap (map (word_of text)) t ∙ g.words) in
     f.writes ∙ ap written_by form ∙ sym g.writes
+
+-- in a text of the first form no token is missing
+pub no_bad_form : (text : Text) (ts : List Token) (j : ℕ) → AreTokensOf text 0 ts j → IsBadAfter text j → (w : Written) → IsFirstForm text w → ⊥
+no_bad_form text ts j t b w f = no_bad_end text j f.last ts f.tokens b (last_gap text w f) t f.are_tokens
+
+pub same_tokens_of : (text : Text) (ts : List Token) (j : ℕ) → AreTokensOf text 0 ts j → IsLastGap (part text j (length text)) → (w : Written) (f : IsFirstForm text w) → f.tokens ≡ ts
+same_tokens_of text ts j t g w f = one_list text f.last j f.tokens ts (last_gap text w f) g f.are_tokens t

@@ -44,10 +44,6 @@ pub record IsUnbuilt (text : Text) (status : Status) (bytes : Text) : Type 0 whe
   pub ends : status ≡ Unbuilt
   pub writes : bytes ≡ unbuilt_text
 
--- as long as no form is built
-abbrev pub IsEarlyReply : Status → Text → Type 0
-IsEarlyReply s b = (s ≡ Unbuilt) × (b ≡ unbuilt_text)
-
 -- the words are the one word `alone`
 abbrev pub AreWords : List Text → Type 0
 AreWords words = words ≡ codes "alone" ∷ []
@@ -59,9 +55,5 @@ IsReplyToText text status bytes = IsAnswered text status bytes ⊎ IsUnbuilt tex
 abbrev pub IsUsage : Status → Text → Type 0
 IsUsage status bytes = (status ≡ Usage) × (bytes ≡ usage_text)
 
--- the reply to words, where `to_text` says what is called for if they are valid
-abbrev pub IsReplyBy : (Status → Text → Type 0) → List Text → Status → Text → Type 0
-IsReplyBy to_text words s b = ((AreWords words → ⊥) × IsUsage s b) ⊎ (AreWords words × to_text s b)
-
 abbrev pub IsReply : List Text → Text → Status → Text → Type 0
-IsReply words text s b = IsReplyBy (IsReplyToText text) words s b
+IsReply words text s b = ((AreWords words → ⊥) × IsUsage s b) ⊎ (AreWords words × IsReplyToText text s b)

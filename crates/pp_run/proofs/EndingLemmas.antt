@@ -1,11 +1,13 @@
 -- From what was written to how the call ended.
-use Rattle.std.proofs.Common.{◌≡◌, ◌≤◌, ℕ, List, [], ◌∷◌, length, map, get_or, refl, subst, ap, sym, ◌∙◌, ◌⊎◌, inl, inr, arith, Option, Some, None, IfSome}
+use Rattle.std.proofs.Common.{◌≡◌, ◌<◌, ℕ, List, [], ◌∷◌, length, map, get_or, refl, subst, ap, sym, ◌∙◌, ◌⊎◌, inl, inr, arith, Option, Some, None, IfSome}
 use Rattle.pp_language.specs.declared.status.Status.{Status}
 use Rattle.pp_language.specs.declared.status.Status.TheVariants.{Yes, No, Usage, Syntax, Stopped, Limit, ReadFault, WriteFault, Memory, Unbuilt}
 use Rattle.pp_language.specs.Texts.{Text}
-use Rattle.pp_language.specs.Answers.{usage_text}
-use Rattle.pp_propagation.specs.Replies.{AreWords, IsReplyBy, IsEarlyReply}
-use Rattle.pp_io.specs.Ends.{Took}
+use Rattle.pp_language.specs.Answers.{usage_text, unbuilt_text}
+use Rattle.pp_propagation.specs.Runs.{End, yes, no, stopped}
+use Rattle.pp_propagation.specs.Replies.{status_of, AreWords, IsReplyToText, IsReply}
+use Rattle.pp_io.specs.Ends.{Took, GaveAll}
+use Rattle.pp_run.proofs.Replying.{too_long_reply}
 use Rattle.pp_run.specs.Endings.{Replied, Wrote}
 
 pub each_told : {A : Type 0} (P : A → Type 0) (o : Option A) → ((x : A) → P x) → IfSome o P
@@ -41,10 +43,33 @@ pub replied : (reply : Status → Text → Type 0) (s : Status) (b : Text) (befo
 replied reply s b before after result i r (inl w) = subst (Replied reply before after) (sym w.0) (whole reply s b before after i r w.1)
 replied reply s b before after result i r (inr w) = subst (Replied reply before after) (sym w.0) (s, b, r, w.1, w.2, w.3, w.4)
 
-module _ (words : List Text) (left before after : Option Text) (result : Status) where
-  pub after_bad_words : (AreWords words → ⊥) → Wrote Usage usage_text before after result → IfSome left (λ text. Replied (IsReplyBy IsEarlyReply words) before after result)
-  after_bad_words bad w = each_told (λ text. Replied (IsReplyBy IsEarlyReply words) before after result) left (λ text. replied (IsReplyBy IsEarlyReply words) Usage usage_text before after result tt (inl (bad, (refl, refl))) w)
+-- the statuses of a reply to a text
+is_answer : (text : Text) (s : Status) (b : Text) → IsReplyToText text s b → IsAnswer s
+is_answer text s b (inl a) = subst IsAnswer (sym a.ends) (of_end a.run.end)
+  where
+    of_end : (e : End) → IsAnswer (status_of e)
+    of_end yes = tt
+    of_end no = tt
+    of_end stopped = tt
+is_answer text s b (inr u) = subst IsAnswer (sym u.ends) tt
 
-  pub after_words : (s : Status) (b : Text) → AreWords words → IsEarlyReply s b → Wrote s b before after result → IfSome left (λ text. Replied (IsReplyBy IsEarlyReply words) before after result)
-  after_words s b good e w =
-      each_told (λ text. Replied (IsReplyBy IsEarlyReply words) before after result) left (λ text. replied (IsReplyBy IsEarlyReply words) s b before after result (subst IsAnswer (sym e.0) tt) (inr (good, e)) w)
+module _ (words : List Text) (before after : Option Text) (result : Status) where
+  abbrev ToText : Text → Type 0
+  ToText text = Replied (IsReply words text) before after result
+
+  pub after_bad_words : (left : Option Text) → (AreWords words → ⊥) → Wrote Usage usage_text before after result → IfSome left ToText
+  after_bad_words left bad w = each_told ToText left (λ text. replied (IsReply words text) Usage usage_text before after result tt (inl (bad, (refl, refl))) w)
+
+  reply_written : (text : Text) (s : Status) (b : Text) → AreWords words → IsReplyToText text s b → Wrote s b before after result → ToText text
+  reply_written text s b good r w = replied (IsReply words text) s b before after result (is_answer text s b r) (inr (good, r)) w
+
+  pub after_long_text : (left : Option Text) → AreWords words → IfSome left (λ text. 4194304 < length text) → Wrote Unbuilt unbuilt_text before after result → IfSome left ToText
+  after_long_text None good long w = tt
+  after_long_text (Some text) good long w = reply_written text Unbuilt unbuilt_text good (too_long_reply text long) w
+
+  pub after_text : (left rest : Option Text) (text : Text) (s : Status) (b : Text) → AreWords words → GaveAll left rest text → IsReplyToText text s b → Wrote s b before after result → IfSome left ToText
+  after_text None rest text s b good all r w = tt
+  after_text (Some told) rest text s b good all r w = subst ToText all.0 (reply_written text s b good r w)
+
+pub same_reply : (t u : Text) (s : Status) (a b : Text) → t ≡ u → a ≡ b → IsReplyToText t s b → IsReplyToText u s a
+same_reply t u s a b e f r = subst (λ (x : Text). IsReplyToText x s a) e (subst (IsReplyToText t s) (sym f) r)

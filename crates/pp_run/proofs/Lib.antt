@@ -6,4 +6,16 @@ pub mod FirstVerdicts
 pub mod FirstRuns
 pub mod NamedLines
 pub mod StoreText
+pub mod ReadArguments
+pub mod ReadNames
+pub mod ReadSaid
+pub mod ReadPlaces
+pub mod ReadFacts
+pub mod ReadGaps
+pub mod ReadTexts
+pub mod ReadKeys
 pub mod Replying
+pub mod ReadMeaning
+pub mod ReadQueries
+pub mod ReadBytes
+pub mod ReadWhole

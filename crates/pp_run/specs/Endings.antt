@@ -1,5 +1,5 @@
 -- How a call of the program ends: what it wrote for a reply, and what it left in its source.
-use Rattle.std.specs.Prelude.{◌≡◌, ◌⊎◌, ◌++◌, Option}
+use Rattle.std.specs.Prelude.{◌≡◌, ◌≢◌, ◌⊎◌, ◌++◌, Option}
 use Rattle.pp_language.specs.declared.status.Status.{Status}
 use Rattle.pp_language.specs.declared.status.Status.TheVariants.{Yes, No, Usage, Syntax, Stopped, Limit, ReadFault, WriteFault, Memory, Unbuilt}
 use Rattle.pp_language.specs.Texts.{Text}
@@ -44,3 +44,10 @@ IsWordsEnd s = (s ≡ Usage) ⊎ (s ≡ WriteFault)
 -- the endings before the first write
 abbrev pub TookNothing : Status → Type 0
 TookNothing s = (s ≡ ReadFault) ⊎ (s ≡ Memory)
+
+-- a status that a reply to a text may have
+pub record IsOrdinary (s : Status) : Type 0 where
+  pub words : s ≢ Usage
+  pub reading : s ≢ ReadFault
+  pub writing : s ≢ WriteFault
+  pub memory : s ≢ Memory

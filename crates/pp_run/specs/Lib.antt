@@ -1,5 +1,9 @@
 pub mod Endings
+pub mod ReadWords
+pub mod ReadTerms
+pub mod ReadPrograms
 pub mod RunStores
 pub mod RunPlaces
 pub mod RunOutcomes
 pub mod Answered
+pub mod ReadFirst

@@ -1,6 +1,6 @@
 // The command `alone`: one thread, and it returns.
 ghost use Rattle.std.specs.Prelude.{◌≡◌, ◌≢◌, ◌⊎◌, ℕ, ◌≤◌, map, length, Some, IfSome, string_bytes, []};
-ghost use Rattle.pp_propagation.specs.Replies.{AreWords, IsReplyBy, IsEarlyReply, IsUsage};
+ghost use Rattle.pp_propagation.specs.Replies.{AreWords, IsReply, IsUsage};
 ghost use Rattle.pp_io.specs.Ends.{Rose};
 ghost use Rattle.pp_run.specs.Endings.{Wrote, Replied, HasRead, IsWordsEnd, TookNothing};
 
@@ -38,7 +38,7 @@ pub fn alone<S: Source, K: Sink>(
 ) -> Status
     // What was written is the reply to the words and to the text that was left, as the ending says.
     ensures replied { IfSome (S.left source.old) (λ text.
-        Replied (IsReplyBy IsEarlyReply (map string_bytes words.now)) (K.taken sink.old) (K.taken sink.new) result) }
+        Replied (IsReply (map string_bytes words.now) text) (K.taken sink.old) (K.taken sink.new) result) }
     ensures usage { (AreWords (map string_bytes words.now) → ⊥) →
         Replied IsUsage (K.taken sink.old) (K.taken sink.new) result × (source.new ≡ source.old) × IsWordsEnd result }
     ensures words { AreWords (map string_bytes words.now) → result ≢ Status.Usage }

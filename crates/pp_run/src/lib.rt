@@ -4,9 +4,12 @@
 mod answer;
 mod command;
 mod print;
+mod read;
 mod reply;
 mod run;
 mod store;
+#[cfg(test)]
+mod tests;
 mod words;
 
 pub use command::alone;

@@ -1,7 +1,5 @@
-use Rattle.std.proofs.Common.{refl, ◌∙◌}
-use Rattle.pp_language.specs.declared.status.Status.TheVariants.{Unbuilt}
-use Rattle.pp_language.specs.Answers.{unbuilt_text}
-use Rattle.pp_run.proofs.EndingLemmas.{after_bad_words, after_words}
+use Rattle.std.proofs.Common.{rules}
+use Rattle.pp_run.proofs.EndingLemmas.{after_bad_words, after_long_text, after_text, same_reply}
 use Rattle.pp_run.proofs.OneWord.{not_so}
 use Rattle.pp_run.proofs.command.alone.Goals as goal
 
@@ -9,7 +7,7 @@ pub returns-then-not-are_valid-clause-replied : goal.returns-then-not-are_valid-
 returns-then-not-are_valid-clause-replied g c = after_bad_words _ _ _ _ _ (not_so c.are_valid.result _ c.are_valid.ensures c.if-not-are_valid.true) c.written.ensures.wrote
 
 pub returns-in-Err-TooLong-clause-replied : goal.returns-in-Err-TooLong-clause-replied
-returns-in-Err-TooLong-clause-replied g c = after_words _ _ _ _ _ Unbuilt unbuilt_text (c.are_valid.ensures.0 c.if-not-are_valid.false) (refl, refl) c.written-in-Err-TooLong.ensures.wrote
+returns-in-Err-TooLong-clause-replied g c = after_long_text _ _ _ _ _ (c.are_valid.ensures.0 c.if-not-are_valid.false) (c.in-Err-TooLong.ensures.too_long (search rules)) c.written-in-Err-TooLong.ensures.wrote
 
 pub returns-in-Ok-reply_to-clause-replied : goal.returns-in-Ok-reply_to-clause-replied
-returns-in-Ok-reply_to-clause-replied g c = after_words _ _ _ _ _ c.in-Ok-reply_to.reply.status _ (c.are_valid.ensures.0 c.if-not-are_valid.false) (c.in-Ok-reply_to.ensures.0, c.deref-in-Ok-reply_to.ensures.value ∙ c.in-Ok-reply_to.ensures.1) c.written-in-Ok-reply_to.ensures.wrote
+returns-in-Ok-reply_to-clause-replied g c = after_text _ _ _ _ _ _ _ c.in-Ok-reply_to.reply.status _ (c.are_valid.ensures.0 c.if-not-are_valid.false) c.in-Ok.ensures.all (same_reply c.deref.result.now _ c.in-Ok-reply_to.reply.status _ c.in-Ok-reply_to.reply.bytes.items c.deref.ensures.value c.deref-in-Ok-reply_to.ensures.value c.in-Ok-reply_to.ensures.reply) c.written-in-Ok-reply_to.ensures.wrote
