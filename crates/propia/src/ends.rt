@@ -12,7 +12,10 @@ pub struct StdinSource {
 }
 
 impl StdinSource {
-    pub fn new(stdin: Stdin) -> StdinSource {
+    /// Standard input, of which no call failed yet.
+    pub fn new(stdin: Stdin) -> StdinSource
+        ensures { result.faults ≡ 0 }
+    {
         StdinSource { stdin, faults: 0 }
     }
 }
@@ -41,7 +44,10 @@ pub struct StdoutSink {
 }
 
 impl StdoutSink {
-    pub fn new(stdout: Stdout) -> StdoutSink {
+    /// Standard output, of which no call failed yet.
+    pub fn new(stdout: Stdout) -> StdoutSink
+        ensures { result.faults ≡ 0 }
+    {
         StdoutSink { stdout, faults: 0 }
     }
 }
