@@ -8,3 +8,10 @@ pub mod OneReading
 pub mod Saids
 pub mod WrittenOnce
 pub mod WorkedExamples
+pub mod PartsRead
+pub mod PartsSpelled
+pub mod PartsFormed
+pub mod OneStatement
+pub mod OneItems
+pub mod OneFault
+pub mod StatementParts

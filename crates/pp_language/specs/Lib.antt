@@ -10,3 +10,9 @@ pub mod Answers
 pub mod FirstForm
 pub mod FirstMeaning
 pub mod Examples
+pub mod Phrases
+pub mod Statements
+pub mod Faults
+pub mod Meanings
+pub mod Limits
+pub mod PartsOf

@@ -1,0 +1,87 @@
+-- The counted quantities of a text, and the first limit that is passed.
+use Rattle.std.specs.Prelude.{◌≡◌, ℕ, suc, Bool, false, cond, not, ◌||◌, nat_le, List, [], ◌∷◌, map, length, Option, Some, None}
+use Rattle.std.specs.List.{list_any}
+use Rattle.pp_language.specs.declared.which.Which.{Which}
+use Rattle.pp_language.specs.declared.which.Which.TheVariants.{Clauses, Arity, Variables, Goals}
+use Rattle.pp_language.specs.Texts.{Text}
+use Rattle.pp_language.specs.Programs.{Written}
+use Rattle.pp_language.specs.Phrases.{Phrase, integer_phrase, variable_phrase, said, Phrases, no_phrases, phrase_and, count}
+use Rattle.pp_language.specs.Statements.{BodyItem, calls, equates, belongs, compares, QueryPhrase, asks_equal, asks_member, asks_infer, Statement, directive, clause, query}
+use Rattle.pp_language.specs.Meanings.{keyed_lists, keys_in, said_arguments, body_phrases, query_phrases, written_by}
+use Rattle.pp_language.specs.Faults.{IsInGrammar}
+
+abbrev pub is_above : ℕ → ℕ → Bool
+is_above limit n = not (nat_le n limit)
+
+-- some atom has more than 255 arguments
+abbrev mutual
+  pub is_too_wide : Phrase → Bool
+  is_too_wide (integer_phrase bs) = false
+  is_too_wide (variable_phrase bs) = false
+  is_too_wide (said w ps) = is_above 255 (count ps) || are_too_wide ps
+
+  pub are_too_wide : Phrases → Bool
+  are_too_wide no_phrases = false
+  are_too_wide (phrase_and p ps) = is_too_wide p || are_too_wide ps
+
+abbrev pub body_too_wide : BodyItem → Bool
+body_too_wide (calls p) = is_too_wide p
+body_too_wide (equates p q) = is_too_wide p || is_too_wide q
+body_too_wide (belongs p s) = is_too_wide p
+body_too_wide (compares k p q) = is_too_wide p || is_too_wide q
+
+abbrev pub query_too_wide : QueryPhrase → Bool
+query_too_wide (asks_equal p q) = is_too_wide p || is_too_wide q
+query_too_wide (asks_member p s) = is_too_wide p
+query_too_wide (asks_infer p m) = is_too_wide p
+
+-- how many variables stand in these phrases
+abbrev pub variable_count : List Phrases → ℕ
+variable_count pss = length (keys_in (keyed_lists [] 0 pss))
+
+abbrev pub goal_count : List QueryPhrase → ℕ
+goal_count [] = 0
+goal_count (asks_equal p q ∷ is) = goal_count is
+goal_count (asks_member p s ∷ is) = goal_count is
+goal_count (asks_infer p m ∷ is) = suc (goal_count is)
+
+abbrev pub when : Bool → Which → Option Which → Option Which
+when b w later = cond b (Some w) later
+
+-- the first limit that a statement passes, with so many clauses before it
+abbrev pub passed : ℕ → Statement → Option Which
+passed n (directive w) = None
+passed n (clause p is) =
+    when (is_above 65535 (suc n)) Clauses
+    (when (is_too_wide p || list_any body_too_wide is) Arity
+    (when (is_above 255 (variable_count (said_arguments p ∷ map body_phrases is))) Variables None))
+passed n (query is) =
+    when (list_any query_too_wide is) Arity
+    (when (is_above 10000 (variable_count (map query_phrases is))) Variables
+    (when (is_above 1000 (goal_count is)) Goals None))
+
+abbrev pub clauses_behind : ℕ → Statement → ℕ
+clauses_behind n (directive w) = n
+clauses_behind n (clause p is) = suc n
+clauses_behind n (query is) = n
+
+abbrev pub or_later : Option Which → Option Which → Option Which
+or_later None later = later
+or_later (Some w) later = Some w
+
+abbrev pub first_passed : ℕ → List Statement → Option Which
+first_passed n [] = None
+first_passed n (s ∷ ss) = or_later (passed n s) (first_passed (clauses_behind n s) ss)
+
+-- the text is in the grammar, passes no limit, and writes this
+pub record Writes (text : Text) (written : Written) : Type 0 where
+  pub statements : List Statement
+  pub in_grammar : IsInGrammar text statements
+  pub within : first_passed 0 statements ≡ None
+  pub writes : written ≡ written_by statements
+
+-- the text is in the grammar, and this is the first limit that it passes
+pub record Passes (text : Text) (which : Which) : Type 0 where
+  pub statements : List Statement
+  pub in_grammar : IsInGrammar text statements
+  pub passes : first_passed 0 statements ≡ Some which
