@@ -5,7 +5,7 @@ use Rattle.std.specs.List.{flat_map, list_all}
 use Rattle.std.proofs.lemmas.Bool.{and_parts}
 use Rattle.pp_language.specs.declared.token.Kind.{Kind}
 use Rattle.pp_language.specs.declared.token.Kind.TheVariants.{Atom, Infers, Left, Right, Comma, Ask}
-use Rattle.pp_language.specs.FirstForm.{Word, word, Said, more_words, argument_words, said_words, FirstText, point, fact_words, goal_words, first_words, is_atom_kind, is_argument_kind, is_name_kind, is_said, is_first}
+use Rattle.pp_language.specs.FirstForm.{Word, word, Said, more_words, argument_words, said_words, FirstText, point, fact_words, goal_words, first_words, is_argument_kind, is_name_kind, is_said, is_first}
 
 -- the word that comes next is no opening parenthesis
 abbrev pub IsNoLeft : List Word → Type 0
@@ -104,18 +104,18 @@ make_first fs g = record { facts = fs; goal = g }
 
 -- the parts of what is of the first form
 pub record IsFirstParts (f : FirstText) : Type 0 where
-  pub facts : list_all (is_said is_atom_kind) f.facts ≡ true
+  pub facts : list_all (is_said is_argument_kind) f.facts ≡ true
   pub count : nat_le (length f.facts) 65535 ≡ true
   pub goal : is_said is_argument_kind f.goal ≡ true
 
 pub first_parts : (f : FirstText) → is_first f ≡ true → IsFirstParts f
 first_parts f h =
-    let p = and_parts (list_all (is_said is_atom_kind) f.facts && nat_le (length f.facts) 65535) (is_said is_argument_kind f.goal) h in
-    let q = and_parts (list_all (is_said is_atom_kind) f.facts) (nat_le (length f.facts) 65535) p.0 in
+    let p = and_parts (list_all (is_said is_argument_kind) f.facts && nat_le (length f.facts) 65535) (is_said is_argument_kind f.goal) h in
+    let q = and_parts (list_all (is_said is_argument_kind) f.facts) (nat_le (length f.facts) 65535) p.0 in
     record { facts = q.0; count = q.1; goal = p.1 }
 
 -- a text of the first form is known by its words
 pub first_words-is : (f g : FirstText) → is_first f ≡ true → is_first g ≡ true → first_words f ≡ first_words g → f ≡ g
 first_words-is f g h k e =
-    let r = first-is is_atom_kind f.facts g.facts f.goal g.goal (first_parts f h).facts (first_parts g k).facts e in
+    let r = first-is is_argument_kind f.facts g.facts f.goal g.goal (first_parts f h).facts (first_parts g k).facts e in
     ap (λ fs. make_first fs f.goal) r.0 ∙ ap (make_first g.facts) r.1

@@ -81,4 +81,4 @@ is_said arguments s =
     && not (is_built_in (atom_of s.name.kind s.name.text) (length s.arguments))
 
 abbrev pub is_first : FirstText → Bool
-is_first f = list_all (is_said is_atom_kind) f.facts && nat_le (length f.facts) 65535 && is_said is_argument_kind f.goal
+is_first f = list_all (is_said is_argument_kind) f.facts && nat_le (length f.facts) 65535 && is_said is_argument_kind f.goal

@@ -1,7 +1,7 @@
-pub mod Places
-pub mod Bound
-pub mod Ground
+pub mod FreeRows
+pub mod Slots
+pub mod Matched
+pub mod Answered
 pub mod Search
-pub mod Agreement
-pub mod Names
-pub mod Whole
+pub mod Folded
+pub mod FlatLeast

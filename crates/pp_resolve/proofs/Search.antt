@@ -1,78 +1,182 @@
 -- The search of one goal over facts.
-use Rattle.std.proofs.Common.{◌≡◌, ℕ, suc, Bool, true, false, List, [], ◌∷◌, ◌++◌, length, map, All, Option, Some, None, refl, sym, ◌∙◌}
+use Rattle.std.proofs.Common.{◌≡◌, ℕ, zero, suc, ◌+◌, ◌<◌, ◌≤◌, Bool, true, false, List, [], ◌∷◌, ◌++◌, length, map, take, get_or, All, Option, Some, None, refl, ap, sym, ◌∙◌, append_assoc, append-nil, subst}
 use Rattle.std.specs.Prelude.{cond, nat_eq}
-use Rattle.std.specs.List.{flat_map}
-use Rattle.std.proofs.lemmas.List.{length-map}
-use Rattle.std.proofs.lemmas.List.Elements.{All-head, All-tail, All-nil, All-cons}
-use Rattle.pp_algebra.specs.Terms.{Tree, count, variables_all}
-use Rattle.pp_algebra.specs.Rows.{Row, IsNumbered}
-use Rattle.pp_algebra.proofs.Bools.{nat_is, right_true}
-use Rattle.pp_sld.specs.Goals.{Predicate, user, Clause, same_predicate}
-use Rattle.pp_sld.specs.Ways.{Way, clause_way, finished, next}
+use Rattle.std.proofs.lemmas.List.{take_more, take_all}
+use Rattle.std.proofs.lemmas.List.Elements.{All-nil, All-cons}
+use Rattle.pp_algebra.specs.Terms.{count}
+use Rattle.pp_algebra.specs.Rows.{Row}
+use Rattle.pp_algebra.proofs.Put.{count-put_all}
+use Rattle.pp_algebra.proofs.Bools.{nat_same, nat_is, left_true, right_true}
+use Rattle.pp_sld.specs.Goals.{user, Clause, Config, same_predicate}
+use Rattle.pp_sld.specs.Ways.{Way, old, clause_way, Leads, finished, next}
 use Rattle.pp_sld.specs.Trees.{answer, choice, Searches, no_more, child, failed, AreSearches}
 use Rattle.pp_sld.specs.Trace.{trace_all}
-use Rattle.pp_sld.specs.Leaves.{root, leaf_row, answer_rows, loose_rows, HasLeaves}
-use Rattle.pp_term.specs.Columns.{trees_of, free_row}
-use Rattle.pp_term.specs.Predicates.{predicate_of}
+use Rattle.pp_sld.specs.Leaves.{variables_from, root, leaf_row, answer_rows, loose_rows, HasLeaves}
+use Rattle.pp_term.specs.declared.pred.Pred.{Pred}
+use Rattle.pp_term.specs.Columns.{trees_of}
+use Rattle.pp_term.specs.Meanings.{predicate_of}
 use Rattle.pp_resolve.specs.declared.fact.Fact.{Fact}
-use Rattle.pp_resolve.specs.Facts.{IsAtom, IsFact, HaveWidth, program}
-use Rattle.pp_resolve.specs.Matching.{bound_all, atom, ground_row, rows_of, found}
-use Rattle.pp_resolve.proofs.Places.{count-trees_of}
-use Rattle.pp_resolve.proofs.Bound.{Result, bound_is}
-use Rattle.pp_resolve.proofs.Ground.{way, reached, leads, dead, canon-ground}
+use Rattle.pp_resolve.specs.FlatRows.{IsFlatRow}
+use Rattle.pp_resolve.specs.Facts.{HaveWidth, program}
+use Rattle.pp_resolve.specs.Matching.{called, IsAnswer, HasNoAnswer}
+use Rattle.pp_resolve.proofs.FreeRows.{canon_same}
 
-reached-leaf : (vs : List ℕ) (depth : ℕ) → leaf_row (reached vs depth) ≡ ground_row vs
+-- ===== the rows that facts give
+
+-- the row of one fact: none where it is of another predicate
+abbrev Brings : Row → Pred → Fact → Option Row → Type 0
+Brings face p f None = f.pred ≡ p → HasNoAnswer face f
+Brings face p f (Some r) = (f.pred ≡ p) × IsAnswer face f r × IsFlatRow r
+
+abbrev rows_of : Option Row → List Row
+rows_of None = []
+rows_of (Some r) = r ∷ []
+
+-- the rows of some facts in order
+abbrev AllBring : Row → Pred → List Fact → List Row → Type 0
+AllBring face p [] rows = rows ≡ []
+AllBring face p (f ∷ fs) rows = (o : Option Row) × (later : List Row) × Brings face p f o × AllBring face p fs later × (rows ≡ rows_of o ++ later)
+
+pub record Brought (face : Row) (p : Pred) (fs : List Fact) (rows : List Row) : Type 0 where
+  pub all : AllBring face p fs rows
+
+pub bring_nothing : (face : Row) (p : Pred) → Brought face p [] []
+bring_nothing face p = record { all = refl }
+
+bring_more : (face : Row) (p : Pred) (fs : List Fact) (f : Fact) (rows : List Row) (o : Option Row) → AllBring face p fs rows → Brings face p f o → AllBring face p (fs ++ f ∷ []) (rows ++ rows_of o)
+bring_more face p [] f rows o a b = (o, [], b, refl, ap (λ rs. rs ++ rows_of o) a ∙ sym (append-nil (rows_of o)))
+bring_more face p (g ∷ fs) f rows o a b = (a.0, a.1 ++ rows_of o, a.2, bring_more face p fs f a.1 o a.3 b, ap (λ rs. rs ++ rows_of o) a.4 ∙ append_assoc (rows_of a.0) a.1 (rows_of o))
+
+bring_next : (face : Row) (p : Pred) (fs : List Fact) (i : ℕ) (f : Fact) (rows : List Row) (o : Option Row) → Brought face p (take i fs) rows → i < length fs → f ≡ get_or fs i f → Brings face p f o → Brought face p (take (i + 1) fs) (rows ++ rows_of o)
+bring_next face p fs i f rows o a l e b =
+    let taken : take (i + 1) fs ≡ take i fs ++ f ∷ [] = take_more fs i f l ∙ ap (λ x. take i fs ++ x ∷ []) (sym e) in
+    record { all = subst (λ gs. AllBring face p gs (rows ++ rows_of o)) (sym taken) (bring_more face p (take i fs) f rows o a.all b) }
+
+pub bring_row : (face : Row) (p : Pred) (fs : List Fact) (i : ℕ) (f : Fact) (rows : List Row) (r : Row) → Brought face p (take i fs) rows → i < length fs → f ≡ get_or fs i f → f.pred ≡ p → IsAnswer face f r → IsFlatRow r → Brought face p (take (i + 1) fs) (rows ++ r ∷ [])
+bring_row face p fs i f rows r a l e s g h = bring_next face p fs i f rows (Some r) a l e (s, g, h)
+
+pub bring_none : (face : Row) (p : Pred) (fs : List Fact) (i : ℕ) (f : Fact) (rows : List Row) → Brought face p (take i fs) rows → i < length fs → f ≡ get_or fs i f → HasNoAnswer face f → Brought face p (take (i + 1) fs) rows
+bring_none face p fs i f rows a l e g = subst (Brought face p (take (i + 1) fs)) (append-nil rows) (bring_next face p fs i f rows None a l e (λ s. g))
+
+pub bring_other : (face : Row) (p : Pred) (fs : List Fact) (i : ℕ) (f : Fact) (rows : List Row) → Brought face p (take i fs) rows → i < length fs → f ≡ get_or fs i f → (f.pred ≡ p → ⊥) → Brought face p (take (i + 1) fs) rows
+bring_other face p fs i f rows a l e n = subst (Brought face p (take (i + 1) fs)) (append-nil rows) (bring_next face p fs i f rows None a l e (λ s. absurd (n s)))
+
+same_pred : (a b : Pred) → a ≡ b → same_predicate (predicate_of a) (predicate_of b) ≡ true
+same_pred a b e = rw (e, nat_same b.name, nat_same b.arity) refl
+
+abbrev make_pred : ℕ → ℕ → Pred
+make_pred n k = record { name = n; arity = k }
+
+is_pred : (a b : Pred) → same_predicate (predicate_of a) (predicate_of b) ≡ true → a ≡ b
+is_pred a b e =
+    let name : a.name ≡ b.name = nat_is a.name b.name (left_true _ _ e) in
+    let arity : a.arity ≡ b.arity = nat_is a.arity b.arity (right_true (nat_eq a.name b.name) _ e) in
+    ap (λ k. make_pred k a.arity) name ∙ ap (make_pred b.name) arity
+
+-- ===== the answer that a way leads to
+
+abbrev reached : Row → ℕ → Config
+reached r depth = record { goals = []; columns = r.columns; domains = r.domains; depth = depth }
+
+count-from : (first n : ℕ) → count (variables_from first n) ≡ n
+count-from first zero = refl
+count-from first (suc n) = ap suc (count-from (suc first) n)
+
+-- a row is as wide as the call
+solved_count : (face : Row) (f : Fact) (r : Row) → IsAnswer face f r → count r.columns ≡ count (called face).columns
+solved_count face f r s = ap count (sym s.meets.columns) ∙ count-put_all s.meets.by (called face).columns
+
+solved_width : (face : Row) (f : Fact) (r : Row) → IsAnswer face f r → count r.columns ≡ length face.domains
+solved_width face f r s = solved_count face f r s ∙ count-put_all old (variables_from 0 (length face.domains)) ∙ count-from 0 (length face.domains)
+
+reached-leaf : (face : Row) (f : Fact) (r : Row) (depth : ℕ) → IsAnswer face f r → leaf_row (reached r depth) ≡ r
 unfolding leaf_row
-reached-leaf vs depth = canon-ground vs
+reached-leaf face f r depth s = canon_same r s.row.canonical
 
-reached-ends : (fs : List Fact) (vs : List ℕ) (depth : ℕ) → next (program fs) (reached vs depth) ≡ finished
+reached-ends : (fs : List Fact) (r : Row) (depth : ℕ) → next (program fs) (reached r depth) ≡ finished
 unfolding next
-reached-ends fs vs depth = refl
+reached-ends fs r depth = refl
 
-module _ (all : List Fact) (p : Predicate) (cs : List (Tree ℕ)) (n depth : ℕ) where
-  -- the search trees of some facts' ways
+-- ===== the search
+
+module _ (all : List Fact) (p : Pred) (face : Row) (depth : ℕ) where
+  -- the search trees of some ways
   pub record Searched (ws : List Way) (rows : List Row) : Type 0 where
     pub trees : Searches
     pub are : AreSearches (program all) ws trees
     pub answers : answer_rows (trace_all trees) ≡ rows
     pub loose : loose_rows (trace_all trees) ≡ []
-    pub width : HaveWidth n rows
+    pub width : HaveWidth (length face.domains) rows
 
-  abbrev ways : List Clause → List Way
-  ways cls = map (clause_way (root (user p) (free_row cs n) (suc depth)) [] (record { shape = user p; arguments = trees_of cs }) [] depth) cls
+  abbrev way : Clause → Way
+  way cl = clause_way (root (user (predicate_of p)) face (suc depth)) [] (record { shape = user (predicate_of p); arguments = face.columns }) [] depth cl
 
-  one_more : (hs : List (Tree ℕ)) (cls : List Clause) (rows : List Row) (o : Option (List ℕ)) → All IsAtom hs → length hs ≡ length cs → Result cs hs n [] o → Searched (ways cls) rows → Searched (ways (record { head = trees_of hs; body = [] } ∷ cls)) (rows_of o ++ rows)
-  one_more hs cls rows None a l r s = record {
-    trees = failed s.trees;
-    are = (way p cs n depth hs, ways cls, refl, dead p cs hs n depth a l r, s.are);
-    answers = s.answers;
-    loose = s.loose;
-    width = s.width;
-  }
-  one_more hs cls rows (Some vs) a l r s = record {
-    trees = child (answer (reached vs depth)) s.trees;
-    are = (way p cs n depth hs, ways cls, refl, reached vs depth, leads p cs hs n depth vs a l r, (reached-ends all vs depth, refl), s.are);
-    answers = rw (reached-leaf vs depth, s.answers) refl;
-    loose = s.loose;
-    width = All-cons (λ q. count q.columns ≡ n) (ground_row vs) rows (count-trees_of (map atom vs) ∙ length-map vs atom ∙ r.long) s.width;
-  }
+  abbrev head : Fact → Clause
+  head f = record { head = trees_of f.head; body = [] }
+
+  leads : (f : Fact) (r : Row) → IsAnswer face f r → Leads (way (head f)) (reached r depth)
+  leads f r s = record { solved = s; goals = refl; columns = solved_count face f r s; depth = refl }
 
   abbrev clauses_for : List Fact → List Clause
-  clauses_for fs = program fs p
+  clauses_for fs = program fs (predicate_of p)
 
-  next_fact : (x : Fact) (fs : List Fact) (b : Bool) → same_predicate (predicate_of x.pred) p ≡ b → IsFact x → length cs ≡ p.arity → IsNumbered 0 (variables_all (trees_of cs)) n → Searched (ways (clauses_for fs)) (flat_map (found cs p) fs) → Searched (ways (cond b (record { head = trees_of x.head; body = [] } ∷ clauses_for fs) (clauses_for fs))) (cond b (rows_of (bound_all cs x.head [])) [] ++ flat_map (found cs p) fs)
-  next_fact x fs true e h w m later =
-      let k : x.pred.arity ≡ p.arity = nat_is x.pred.arity p.arity (right_true (nat_eq x.pred.name p.name) _ e) in
-      let l : length x.head ≡ length cs = h.arity ∙ k ∙ sym w in
-      one_more x.head (clauses_for fs) (flat_map (found cs p) fs) (bound_all cs x.head []) h.atoms l (bound_is cs x.head n [] h.atoms l m) later
-  next_fact x fs false e h w m later = later
+  -- the clauses with one more fact before them, if it is of the predicate
+  abbrev with_fact : Fact → List Clause → List Clause
+  with_fact f cls = cond (same_predicate (predicate_of f.pred) (predicate_of p)) (head f ∷ cls) cls
 
-  pub searched : (fs : List Fact) → All IsFact fs → length cs ≡ p.arity → IsNumbered 0 (variables_all (trees_of cs)) n → Searched (ways (clauses_for fs)) (flat_map (found cs p) fs)
-  searched [] f w m = record { trees = no_more; are = refl; answers = refl; loose = refl; width = All-nil (λ q. count q.columns ≡ n) }
-  searched (x ∷ fs) f w m = next_fact x fs (same_predicate (predicate_of x.pred) p) refl (All-head IsFact x fs f) w m (searched fs (All-tail IsFact x fs f) w m)
+  next_row : (f : Fact) (cls : List Clause) (rows : List Row) (r : Row) → f.pred ≡ p → IsAnswer face f r → Searched (map way cls) rows → Searched (map way (with_fact f cls)) (r ∷ rows)
+  next_row f cls rows r e g s = rw (same_pred f.pred p e) (record {
+    trees = child (answer (reached r depth)) s.trees;
+    are = (way (head f), map way cls, refl, reached r depth, leads f r g, (reached-ends all r depth, refl), s.are);
+    answers = rw (reached-leaf face f r depth g, s.answers) refl;
+    loose = s.loose;
+    width = All-cons (λ q. count q.columns ≡ length face.domains) r rows (solved_width face f r g) s.width;
+  })
 
-  pub leaves : All IsFact all → length cs ≡ p.arity → IsNumbered 0 (variables_all (trees_of cs)) n → HasLeaves (program all) (root (user p) (free_row cs n) (suc depth)) (flat_map (found cs p) all) []
+  next_none : (f : Fact) (cls : List Clause) (rows : List Row) → (f.pred ≡ p → HasNoAnswer face f) → Searched (map way cls) rows → Searched (map way (with_fact f cls)) rows
+  next_none f cls rows g s = go (same_predicate (predicate_of f.pred) (predicate_of p)) refl
+    where
+      go : (b : Bool) → same_predicate (predicate_of f.pred) (predicate_of p) ≡ b → Searched (map way (cond b (head f ∷ cls) cls)) rows
+      go true e = record {
+        trees = failed s.trees;
+        are = (way (head f), map way cls, refl, g (is_pred f.pred p e), s.are);
+        answers = s.answers;
+        loose = s.loose;
+        width = s.width;
+      }
+      go false e = s
+
+  next_fact : (f : Fact) (cls : List Clause) (rows : List Row) (o : Option Row) → Brings face p f o → Searched (map way cls) rows → Searched (map way (with_fact f cls)) (rows_of o ++ rows)
+  next_fact f cls rows None b s = next_none f cls rows b s
+  next_fact f cls rows (Some r) b s = next_row f cls rows r b.0 b.1 s
+
+  searched : (fs : List Fact) (rows : List Row) → AllBring face p fs rows → Searched (map way (clauses_for fs)) rows
+  searched [] rows a = rw a (record { trees = no_more; are = refl; answers = refl; loose = refl; width = All-nil (λ q. count q.columns ≡ length face.domains) })
+  searched (f ∷ fs) rows a = rw a.4 (next_fact f (clauses_for fs) a.1 a.0 a.2 (searched fs a.1 a.3))
+
+  pub all_searched : (rows : List Row) → Brought face p all rows → Searched (map way (clauses_for all)) rows
+  all_searched rows a = searched all rows a.all
+
+  pub leaves : (rows : List Row) → Brought face p all rows → HasLeaves (program all) (root (user (predicate_of p)) face (suc depth)) rows []
   unfolding next
-  leaves f w m =
-      let s = searched all f w m in
-      record { tree = choice s.trees; is_tree = (ways (clauses_for all), refl, s.are); answers = s.answers; loose_ends = s.loose }
+  leaves rows a =
+      let s = all_searched rows a in
+      record { tree = choice s.trees; is_tree = (map way (clauses_for all), refl, s.are); answers = s.answers; loose_ends = s.loose }
+
+-- the same where some of the facts are all of them
+pub leaves_of : (fs : List Fact) (p : Pred) (face : Row) (depth i : ℕ) (rows : List Row) → Brought face p (take i fs) rows → length fs ≤ i → HasLeaves (program fs) (root (user (predicate_of p)) face (suc depth)) rows []
+leaves_of fs p face depth i rows a l = leaves fs p face depth rows (subst (λ gs. Brought face p gs rows) (take_all i fs l) a)
+
+pub width_of : (fs : List Fact) (p : Pred) (face : Row) (i : ℕ) (rows : List Row) → Brought face p (take i fs) rows → length fs ≤ i → HaveWidth (length face.domains) rows
+width_of fs p face i rows a l = (all_searched fs p face 0 rows (subst (λ gs. Brought face p gs rows) (take_all i fs l) a)).width
+
+flat_next : (face : Row) (p : Pred) (f : Fact) (o : Option Row) (rows : List Row) → Brings face p f o → All IsFlatRow rows → All IsFlatRow (rows_of o ++ rows)
+flat_next face p f None rows b h = h
+flat_next face p f (Some r) rows b h = All-cons IsFlatRow r rows b.2 h
+
+all_flat : (face : Row) (p : Pred) (fs : List Fact) (rows : List Row) → AllBring face p fs rows → All IsFlatRow rows
+all_flat face p [] rows a = rw a (All-nil IsFlatRow)
+all_flat face p (f ∷ fs) rows a = rw a.4 (flat_next face p f a.0 a.1 a.2 (all_flat face p fs a.1 a.3))
+
+pub flat_of : (fs : List Fact) (p : Pred) (face : Row) (i : ℕ) (rows : List Row) → Brought face p (take i fs) rows → length fs ≤ i → All IsFlatRow rows
+flat_of fs p face i rows a l = all_flat face p (take i fs) rows a.all

@@ -1,22 +1,19 @@
--- Facts as clauses without a body. So far a fact's arguments are atoms.
+-- Facts as clauses without a body. A fact's arguments are atoms and variables.
 use Rattle.std.specs.Prelude.{◌≡◌, ℕ, List, [], All, length, map}
-use Rattle.pp_algebra.specs.Terms.{Tree, int, node, variable, none, more, count}
+use Rattle.pp_algebra.specs.Terms.{count}
 use Rattle.pp_algebra.specs.Rows.{Row}
 use Rattle.pp_sld.specs.Goals.{Predicate, Clause, Program, program_of}
 use Rattle.pp_term.specs.Columns.{trees_of}
-use Rattle.pp_term.specs.Predicates.{predicate_of}
+use Rattle.pp_term.specs.Meanings.{predicate_of}
+use Rattle.pp_term.specs.WellFormed.{AreBelow}
 use Rattle.pp_resolve.specs.declared.fact.Fact.{Fact}
+use Rattle.pp_resolve.specs.FlatRows.{IsFlat}
 
-abbrev pub IsAtom : Tree ℕ → Type 0
-IsAtom (int n) = ⊥
-IsAtom (node f none) = Unit {0}
-IsAtom (node f (more t ts)) = ⊥
-IsAtom (variable v) = ⊥
-
--- as many arguments as the predicate has, each an atom
+-- as many arguments as the predicate has, each an atom or a variable below `vars`
 pub record IsFact (f : Fact) : Type 0 where
   pub arity : length f.head ≡ f.pred.arity
-  pub atoms : All IsAtom f.head
+  pub flat : All IsFlat f.head
+  pub below : AreBelow f.vars f.head
 
 -- the predicate of a fact, and the clause
 abbrev pub clause_of : Fact → Predicate × Clause

@@ -1,3 +1,4 @@
+pub mod Bindings
+pub mod FlatRows
 pub mod Facts
 pub mod Matching
-pub mod Tuples

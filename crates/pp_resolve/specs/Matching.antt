@@ -1,40 +1,35 @@
--- The values of a face's variables where its columns are these atoms: a variable takes its value where it stands first.
-use Rattle.std.specs.Prelude.{ℕ, cond, nat_eq, nat_lt, List, [], ◌∷◌, ◌++◌, length, map, slice_index, Option, Some, None, option_and_then}
-use Rattle.pp_algebra.specs.Terms.{Tree, int, node, variable, none, more}
-use Rattle.pp_algebra.specs.Rows.{Row}
-use Rattle.pp_sld.specs.Goals.{Predicate, same_predicate}
+-- The answer that a fact gives to a goal: the most general row that makes its head the face's columns.
+use Rattle.std.specs.Prelude.{◌≡◌, ◌↔◌, ℕ, ◌+◌, ◌⊎◌, Bool, true, false, List, [], ◌∷◌, length}
+use Rattle.pp_algebra.specs.Terms.{Tree, variable, put, put_all}
+use Rattle.pp_algebra.specs.Rows.{Pattern, Row}
+use Rattle.pp_algebra.specs.Solve.{Item, equations, IsSolved, HasNone}
+use Rattle.pp_sld.specs.Ways.{old, new, two_domains}
+use Rattle.pp_sld.specs.Leaves.{variables_from}
 use Rattle.pp_term.specs.Columns.{trees_of}
-use Rattle.pp_term.specs.Predicates.{predicate_of}
 use Rattle.pp_resolve.specs.declared.fact.Fact.{Fact}
+use Rattle.pp_resolve.specs.declared.flat.Flat.{Flat}
+use Rattle.pp_resolve.specs.Bindings.{Agrees}
 
--- the values after a column meets an atom of this name
-abbrev pub bound : Tree ℕ → ℕ → List ℕ → Option (List ℕ)
-bound (int n) a vs = None
-bound (node f none) a vs = cond (nat_eq f a) (Some vs) None
-bound (node f (more t ts)) a vs = None
-bound (variable v) a vs = cond (nat_lt v (length vs)) (cond (nat_eq (slice_index vs v) a) (Some vs) None) (Some (vs ++ a ∷ []))
+-- the face's distinct variables, beside which stand those of the fact
+abbrev pub called : Row → Pattern (ℕ ⊎ ℕ)
+called face = record { columns = put_all old (variables_from 0 (length face.domains)); domains = two_domains face.domains }
 
-abbrev pub name_of : Tree ℕ → ℕ
-name_of (int n) = 0
-name_of (node f ts) = f
-name_of (variable v) = 0
+abbrev pub matching : Row → Fact → List (Item (ℕ ⊎ ℕ))
+matching face f = equations (put_all new (trees_of f.head)) (put_all old face.columns)
 
-abbrev pub bound_all : List (Tree ℕ) → List (Tree ℕ) → List ℕ → Option (List ℕ)
-bound_all [] hs vs = Some vs
-bound_all (c ∷ cs) [] vs = None
-bound_all (c ∷ cs) (h ∷ hs) vs = option_and_then (bound_all cs hs) (bound c (name_of h) vs)
+abbrev pub IsAnswer : Row → Fact → Row → Type 0
+IsAnswer face f r = IsSolved (called face) (matching face f) r
 
-abbrev pub atom : ℕ → Tree ℕ
-atom a = node a none
+abbrev pub HasNoAnswer : Row → Fact → Type 0
+HasNoAnswer face f = HasNone (called face) (matching face f)
 
--- the row of these atoms
-abbrev pub ground_row : List ℕ → Row
-ground_row vs = record { columns = trees_of (map atom vs); domains = [] }
+-- the substitution makes the columns the terms of the head, whose variables are counted from `first`
+abbrev pub Match : ℕ → (ℕ → Tree ℕ) → List (Tree ℕ) → List (Tree ℕ) → Type 0
+Match first s [] hs = Unit {0}
+Match first s (c ∷ cs) [] = Unit {0}
+Match first s (c ∷ cs) (h ∷ hs) = (put s c ≡ put s (put (λ v. variable (first + v)) h)) × Match first s cs hs
 
-abbrev pub rows_of : Option (List ℕ) → List Row
-rows_of None = []
-rows_of (Some vs) = ground_row vs ∷ []
-
--- the answer that a fact gives, if it gives one
-abbrev pub found : List (Tree ℕ) → Predicate → Fact → List Row
-found columns p f = cond (same_predicate (predicate_of f.pred) p) (rows_of (bound_all columns f.head [])) []
+-- what agrees with the bindings makes them so; or nothing does
+abbrev pub Matches : ℕ → List (Tree ℕ) → List (Tree ℕ) → List Flat → Bool → Type 0
+Matches first cs hs ss true = (s : ℕ → Tree ℕ) → Agrees ss s ↔ Match first s cs hs
+Matches first cs hs ss false = (s : ℕ → Tree ℕ) → Match first s cs hs → ⊥

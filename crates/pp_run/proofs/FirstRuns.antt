@@ -1,5 +1,5 @@
 -- Between two turns of a query of one goal with `most`, and what a turn makes of it.
-use Rattle.std.proofs.Common.{◌≡◌, ℕ, zero, suc, ◌+◌, ◌<◌, true, List, [], ◌∷◌, length, refl, ap, sym, ◌∙◌, subst, inr, arith}
+use Rattle.std.proofs.Common.{◌≡◌, ℕ, zero, suc, ◌+◌, ◌<◌, true, List, [], ◌∷◌, length, None, refl, ap, sym, ◌∙◌, subst, inr, arith}
 use Rattle.std.specs.Prelude.{cond, not, ◌&&◌, nat_eq}
 use Rattle.std.proofs.Math.ListN.{length-map}
 use Rattle.pp_algebra.specs.Terms.{Tree, count, variable}
@@ -16,7 +16,6 @@ use Rattle.pp_propagation.specs.Stores.{Asked, goals_of, column, arguments_under
 use Rattle.pp_propagation.specs.Turns.{HasVerdict, State, without, woken, narrowed, passed_by}
 use Rattle.pp_propagation.specs.Runs.{yes, no, stopped, Run, ended, failed, GoesOn, RunsWith, opening, IsRun}
 use Rattle.pp_run.specs.RunOutcomes.{asked, query_by, Ran}
-use Rattle.pp_run.proofs.FreeRows.{free}
 use Rattle.pp_run.proofs.FirstVerdicts.{not_same, is_same}
 
 -- the goal waits, and so many turns were made: a run from the state is one from the beginning
@@ -40,7 +39,7 @@ one_less zero made turns e l = absurd (omega arith)
 one_less (suc k) made turns e l = (k, refl, omega arith)
 
 module _ (clauses : Program) (n : ℕ) (named : List Text) (p : Predicate) (arguments : List (Tree ℕ)) (depth turns : ℕ) where
-  pub begun : (store : Row) → IsSolved (free (variables_from 0 n)) [] store → Between clauses (query_by n named p arguments) depth turns store 0
+  pub begun : (store : Row) → IsSolved (record { columns = variables_from 0 n; domains = λ _. None }) [] store → Between clauses (query_by n named p arguments) depth turns store 0
   begun store h = record {
     state = opening (query_by n named p arguments) store;
     left = turns;
@@ -157,5 +156,5 @@ count-from : (first n : ℕ) → count (variables_from first n) ≡ n
 count-from first zero = refl
 count-from first (suc n) = ap suc (count-from (suc first) n)
 
-pub opening-count : (n : ℕ) (store : Row) → IsSolved (free (variables_from 0 n)) [] store → count store.columns ≡ n
+pub opening-count : (n : ℕ) (store : Row) → IsSolved (record { columns = variables_from 0 n; domains = λ _. None }) [] store → count store.columns ≡ n
 opening-count n store h = ap count (sym h.meets.columns) ∙ count-put_all h.meets.by (variables_from 0 n) ∙ count-from 0 n

@@ -1,7 +1,7 @@
 pub mod EndingLemmas
 pub mod OneWord
-pub mod FreeRows
-pub mod Columns
+pub mod StoreRows
+pub mod FlatStores
 pub mod FirstVerdicts
 pub mod FirstRuns
 pub mod NamedLines
@@ -17,5 +17,6 @@ pub mod ReadKeys
 pub mod Replying
 pub mod ReadMeaning
 pub mod ReadQueries
+pub mod ReadHeads
 pub mod ReadBytes
 pub mod ReadWhole

@@ -1,9 +1,9 @@
 -- Counting arguments by their kinds.
-use Rattle.std.proofs.Common.{◌≡◌, ℕ, zero, suc, ◌+◌, ◌<◌, ◌≤◌, Bool, true, false, cond, List, [], ◌∷◌, length, drop, get_or, Option, Some, None, refl, ap, sym, ◌∙◌, arith, length-drop}
+use Rattle.std.proofs.Common.{◌≡◌, ℕ, suc, ◌+◌, ◌<◌, ◌≤◌, Bool, true, false, cond, List, [], ◌∷◌, length, drop, get_or, Option, Some, None, refl, ap, sym, ◌∙◌, arith, length-drop}
 use Rattle.std.specs.Prelude.{option_map}
 use Rattle.std.proofs.Math.Seq.{drop-cons}
 use Rattle.pp_language.specs.declared.token.Kind.{Kind}
-use Rattle.pp_language.specs.declared.token.Kind.TheVariants.{Left, Right, Comma}
+use Rattle.pp_language.specs.declared.token.Kind.TheVariants.{Right, Comma}
 use Rattle.pp_language.specs.declared.token.Token.{Token}
 use Rattle.pp_run.specs.ReadWords.{argument_count, count_behind, kinds_of}
 

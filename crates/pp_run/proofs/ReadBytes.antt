@@ -1,9 +1,9 @@
 -- From the tokens of a text to what is read of it.
-use Rattle.std.proofs.Common.{◌≡◌, ◌≤◌, ℕ, Bool, true, false, List, length, map, Option, Some, None, Result, Ok, Err, IfOk, refl, ap, sym, ◌∙◌, subst}
+use Rattle.std.proofs.Common.{◌≡◌, ◌≤◌, Bool, true, false, List, length, map, Option, Some, None, Result, Ok, Err, IfOk, ap, sym, ◌∙◌, subst}
 use Rattle.std.specs.Prelude.{MatchBool}
 use Rattle.pp_language.specs.declared.token.Token.{Token}
 use Rattle.pp_language.specs.Texts.{Text, part}
-use Rattle.pp_language.specs.Tokens.{IsLastGap, AreTokensOf, IsBadAfter}
+use Rattle.pp_language.specs.Tokens.{IsLastGap, IsBadAfter}
 use Rattle.pp_language.specs.Programs.{Written}
 use Rattle.pp_language.specs.FirstForm.{word_of}
 use Rattle.pp_language.specs.FirstMeaning.{AreGapsWhite, IsFirstForm}

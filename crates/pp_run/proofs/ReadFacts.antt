@@ -1,14 +1,13 @@
 -- A fact and a goal are read exactly where they stand.
-use Rattle.std.proofs.Common.{◌≡◌, ℕ, zero, suc, ◌+◌, ◌-◌, ◌*◌, ◌<◌, ◌≤◌, ◌↔◌, ◌⊎◌, inl, inr, Bool, true, false, ◌&&◌, cond, List, [], ◌∷◌, ◌++◌, length, map, drop, get_or, Option, Some, None, refl, ap, sym, ◌∙◌, subst, arith, append_assoc, length-drop}
+use Rattle.std.proofs.Common.{◌≡◌, ℕ, zero, suc, ◌+◌, ◌-◌, ◌<◌, ◌≤◌, ◌↔◌, Bool, false, List, [], ◌∷◌, ◌++◌, length, drop, get_or, refl, ap, sym, ◌∙◌, subst, arith, append_assoc, length-drop}
 use Rattle.std.specs.Prelude.{IsTrue, codes}
 use Rattle.std.proofs.lemmas.Slice.Eq.{bytes_eq-Decides}
-use Rattle.pp_language.specs.declared.token.Kind.{Kind}
-use Rattle.pp_language.specs.declared.token.Kind.TheVariants.{Atom, Infers, Left, Point, Ask}
+use Rattle.pp_language.specs.declared.token.Kind.TheVariants.{Atom, Infers, Point, Ask}
 use Rattle.pp_language.specs.declared.token.Token.{Token}
 use Rattle.pp_language.specs.Texts.{Text, part, same_text}
-use Rattle.pp_language.specs.FirstForm.{Word, word, word_of, Said, said_words, point, fact_words, goal_words, is_atom_kind, is_argument_kind, is_said}
+use Rattle.pp_language.specs.FirstForm.{Word, word, word_of, Said, said_words, point, fact_words, is_argument_kind, is_said}
 use Rattle.pp_run.specs.declared.read.form.Place.{Place}
-use Rattle.pp_run.specs.ReadWords.{AreTokens, words_of, said_at, width, HasKindAt, IsNoLeft, IsSaidAt, HasNoSaid, IsFactAt, HasNoFact, IsGoalAt, HasNoGoal, most_words}
+use Rattle.pp_run.specs.ReadWords.{AreTokens, words_of, said_at, width, HasKindAt, IsSaidAt, HasNoSaid, IsFactAt, HasNoFact, IsGoalAt, HasNoGoal, most_words}
 use Rattle.pp_run.proofs.OneWord.{not_so}
 use Rattle.pp_run.proofs.ReadSaid.{is_word_of}
 use Rattle.pp_run.proofs.ReadPlaces.{here, word_here, words_of-length}
@@ -18,10 +17,10 @@ any_token = record { kind = Point; first = 0; last = 0 }
 
 -- ===== facts
 
-pub no_said_no_fact : (ws : List Word) → HasNoSaid is_atom_kind ws → HasNoFact ws
+pub no_said_no_fact : (ws : List Word) → HasNoSaid is_argument_kind ws → HasNoFact ws
 no_said_no_fact ws h s rest e i = h s (point ∷ rest) (e ∙ append_assoc (said_words s) (point ∷ []) rest) (λ k. cc) i
 
-ends_so : (ws : List Word) (p : Place) → IsSaidAt is_atom_kind ws p → (s : Said) (rest : List Word) → drop p.name ws ≡ fact_words s ++ rest → IsTrue (is_said is_atom_kind s) → drop (p.name + width p.arity) ws ≡ point ∷ rest
+ends_so : (ws : List Word) (p : Place) → IsSaidAt is_argument_kind ws p → (s : Said) (rest : List Word) → drop p.name ws ≡ fact_words s ++ rest → IsTrue (is_said is_argument_kind s) → drop (p.name + width p.arity) ws ≡ point ∷ rest
 ends_so ws p h s rest e i = h.only s (point ∷ rest) (e ∙ append_assoc (said_words s) (point ∷ []) rest) (λ k. cc) i
 
 pub has_kind : (text : Text) (ts : List Token) (i : ℕ) (w : Word) (rest : List Word) → drop i (words_of text ts) ≡ w ∷ rest → HasKindAt ts i w.kind
@@ -30,10 +29,10 @@ has_kind text [] (suc i) w rest e = absurd (cc)
 has_kind text (t ∷ ts) zero w rest e = let k : word_of text t ≡ w = cc in (omega arith, λ d. ap (λ v. v.kind) k)
 has_kind text (t ∷ ts) (suc i) w rest e = let h = has_kind text ts i w rest e in (omega (arith, h.0), λ d. h.1 d)
 
-other_no_fact : (text : Text) (ts : List Token) (p : Place) → IsSaidAt is_atom_kind (words_of text ts) p → (HasKindAt ts (p.name + width p.arity) Point → ⊥) → HasNoFact (drop p.name (words_of text ts))
+other_no_fact : (text : Text) (ts : List Token) (p : Place) → IsSaidAt is_argument_kind (words_of text ts) p → (HasKindAt ts (p.name + width p.arity) Point → ⊥) → HasNoFact (drop p.name (words_of text ts))
 other_no_fact text ts p h n s rest e i = n (has_kind text ts (p.name + width p.arity) point rest (ends_so (words_of text ts) p h s rest e i))
 
-a_fact : (text : Text) (ts : List Token) (p : Place) → AreTokens text ts → IsSaidAt is_atom_kind (words_of text ts) p → HasKindAt ts (p.name + width p.arity) Point → IsFactAt (words_of text ts) p
+a_fact : (text : Text) (ts : List Token) (p : Place) → AreTokens text ts → IsSaidAt is_argument_kind (words_of text ts) p → HasKindAt ts (p.name + width p.arity) Point → IsFactAt (words_of text ts) p
 a_fact text ts p a h k =
     let i = p.name + width p.arity in
     let t = get_or ts i any_token in
@@ -49,10 +48,10 @@ a_fact text ts p a h k =
     }
 
 -- the same at places that are given by equations
-pub no_point_no_fact : (text : Text) (ts : List Token) (p : Place) (at end : ℕ) → p.name ≡ at → end ≡ p.name + width p.arity → IsSaidAt is_atom_kind (words_of text ts) p → (HasKindAt ts end Point → ⊥) → HasNoFact (drop at (words_of text ts))
+pub no_point_no_fact : (text : Text) (ts : List Token) (p : Place) (at end : ℕ) → p.name ≡ at → end ≡ p.name + width p.arity → IsSaidAt is_argument_kind (words_of text ts) p → (HasKindAt ts end Point → ⊥) → HasNoFact (drop at (words_of text ts))
 no_point_no_fact text ts p at end e f h n = subst (λ k. HasNoFact (drop k (words_of text ts))) e (other_no_fact text ts p h (subst (λ k. HasKindAt ts k Point → ⊥) f n))
 
-pub fact_ends : (text : Text) (ts : List Token) (p : Place) (end : ℕ) → AreTokens text ts → end ≡ p.name + width p.arity → IsSaidAt is_atom_kind (words_of text ts) p → HasKindAt ts end Point → IsFactAt (words_of text ts) p
+pub fact_ends : (text : Text) (ts : List Token) (p : Place) (end : ℕ) → AreTokens text ts → end ≡ p.name + width p.arity → IsSaidAt is_argument_kind (words_of text ts) p → HasKindAt ts end Point → IsFactAt (words_of text ts) p
 fact_ends text ts p end a f h k = a_fact text ts p a h (subst (λ k. HasKindAt ts k Point) f k)
 
 -- ===== goals

@@ -1,29 +1,29 @@
 -- The variables of a query, the named ones first, and their numbers.
-use Rattle.std.proofs.Common.{◌≡◌, ℕ, zero, suc, ◌+◌, ◌<◌, ◌≤◌, Bool, true, false, not, ◌||◌, cond, nat_eq, List, [], ◌∷◌, ◌++◌, length, map, refl, ap, sym, ◌∙◌, subst, arith, append_assoc, append-nil, length-append}
+use Rattle.std.proofs.Common.{◌≡◌, ℕ, suc, ◌+◌, ◌≤◌, ◌⊎◌, inl, inr, Bool, true, false, not, ◌||◌, cond, List, [], ◌∷◌, ◌++◌, length, map, refl, ap, sym, ◌∙◌, subst, arith, append_assoc, append-nil, length-append}
 use Rattle.std.specs.Prelude.{codes, filter}
-use Rattle.std.specs.List.{list_all}
 use Rattle.std.proofs.lemmas.Bool.{eq-eqb, ne_eqb, or_parts}
-use Rattle.pp_algebra.specs.Terms.{Tree, node, variable, Trees, none, more, put_all, variables, variables_all}
+use Rattle.pp_algebra.specs.Terms.{Tree, variable, Trees, more, put_all, variables, variables_all}
 use Rattle.pp_algebra.specs.Canon.{has, place, firsts}
+use Rattle.pp_algebra.specs.Covers.{IsIn}
+use Rattle.pp_algebra.proofs.Antisym.{IsIn-either}
 use Rattle.pp_language.specs.declared.token.Kind.{Kind}
 use Rattle.pp_language.specs.declared.token.Kind.TheVariants.{Variable}
 use Rattle.pp_language.specs.Texts.{Text, same_text}
-use Rattle.pp_language.specs.FirstForm.{Word, atom_of}
+use Rattle.pp_language.specs.FirstForm.{Word}
 use Rattle.pp_language.specs.FirstMeaning.{Key, named, unnamed, same_key, is_named, key_of, argument_by, arguments_from, keys_of, named_first, texts_of, numbered}
 use Rattle.pp_term.specs.Columns.{trees_of}
-use Rattle.pp_term.proofs.Numbering.{place-front}
 use Rattle.pp_run.specs.ReadTerms.{new_named, next_of, term_of, named_all, next_all, terms_all}
 
 -- the keys of one argument, and those of `_` alone
-abbrev key_here : ℕ → Kind → Text → List Key
+abbrev pub key_here : ℕ → Kind → Text → List Key
 key_here i Variable bs = key_of i bs ∷ []
 key_here i k bs = []
 
-abbrev unnamed_here : ℕ → Kind → Text → List Key
+abbrev pub unnamed_here : ℕ → Kind → Text → List Key
 unnamed_here i Variable bs = cond (same_text bs (codes "_")) (unnamed i ∷ []) []
 unnamed_here i k bs = []
 
-abbrev keys_from : ℕ → List Word → List Key
+abbrev pub keys_from : ℕ → List Word → List Key
 keys_from i [] = []
 keys_from i (w ∷ ws) = key_here i w.kind w.text ++ keys_from (suc i) ws
 
@@ -35,7 +35,7 @@ variables-argument_by : (names : List Text) (i : ℕ) (k : Kind) (bs : Text) →
 variables-argument_by names i Variable bs = refl
 variables-argument_by names i _ bs = refl
 
-variables-arguments_from : (names : List Text) (i : ℕ) (ws : List Word) → variables_all (arguments_from names i ws) ≡ keys_from i ws
+pub variables-arguments_from : (names : List Text) (i : ℕ) (ws : List Word) → variables_all (arguments_from names i ws) ≡ keys_from i ws
 variables-arguments_from names i [] = refl
 variables-arguments_from names i (w ∷ ws) =
     ap (λ ks. ks ++ variables_all (arguments_from names (suc i) ws)) (variables-argument_by names i w.kind w.text) ∙ ap (λ ks. key_here i w.kind w.text ++ ks) (variables-arguments_from names (suc i) ws)
@@ -83,7 +83,7 @@ named_part seen (unnamed j ∷ ks) =
 -- ===== the `_`
 
 -- no `_` from place i on was seen
-abbrev IsFresh : ℕ → List Key → Type 0
+abbrev pub IsFresh : ℕ → List Key → Type 0
 IsFresh i seen = (j : ℕ) → i ≤ j → has same_key seen (unnamed j) ≡ false
 
 filter-append : (f : Key → Bool) (ks hs : List Key) → filter f (ks ++ hs) ≡ filter f ks ++ filter f hs
@@ -183,7 +183,7 @@ AllIn xs (w ∷ ws) = (w.kind ≡ Variable → same_text w.text (codes "_") ≡ 
 behind : (t : Tree ℕ) (ts us : Trees ℕ) → ts ≡ us → more t ts ≡ more t us
 behind t ts us e = ap (more t) e
 
-numbered_words : (names xs : List Text) (front : List Key) (i : ℕ) (ws : List Word) → AllIn xs ws → IsFresh i front
+pub numbered_words : (names xs : List Text) (front : List Key) (i : ℕ) (ws : List Word) → AllIn xs ws → IsFresh i front
     → numbered (map named xs ++ (front ++ unnamed_from i ws)) (arguments_from names i ws) ≡ trees_of (terms_all names xs (length xs + length front) ws)
 numbered_words names xs front i [] a f = refl
 numbered_words names xs front i (w ∷ ws) a f =
@@ -212,3 +212,34 @@ numbered_words names xs front i (w ∷ ws) a f =
 
 pub numbered_all : (names xs : List Text) (ws : List Word) → AllIn xs ws → numbered (map named xs ++ unnamed_from 0 ws) (arguments_from names 0 ws) ≡ trees_of (terms_all names xs (length xs) ws)
 numbered_all names xs ws a = numbered_words names xs [] 0 ws a (λ j l. refl) ∙ ap (λ n. trees_of (terms_all names xs n ws)) (omega arith)
+
+-- ===== each key is that of a named variable or of a `_`
+
+pub has-left : (ks hs : List Key) (k : Key) → has same_key ks k ≡ true → has same_key (ks ++ hs) k ≡ true
+has-left [] hs k e = absurd (cc)
+has-left (x ∷ ks) hs k e = elim (same_key x k) as (λ b. (b || has same_key ks k) ≡ true → (b || has same_key (ks ++ hs) k) ≡ true) [ true ↦ λ e. refl | false ↦ λ e. has-left ks hs k e ] e
+
+pub has-right : (ks hs : List Key) (k : Key) → has same_key hs k ≡ true → has same_key (ks ++ hs) k ≡ true
+has-right [] hs k e = e
+has-right (x ∷ ks) hs k e = elim (same_key x k) as (λ b. (b || has same_key (ks ++ hs) k) ≡ true) [ true ↦ refl | false ↦ has-right ks hs k e ]
+
+known_here : (xs : List Text) (i : ℕ) (h : Kind) (bs : Text) → (h ≡ Variable → same_text bs (codes "_") ≡ false → has same_text xs bs ≡ true) → (k : Key) → IsIn k (key_here i h bs) → (has same_key (map named xs) k ≡ true) ⊎ (has same_key (unnamed_here i h bs) k ≡ true)
+known_here xs i Variable bs a k m =
+    elim (same_text bs (codes "_")) as (λ b. same_text bs (codes "_") ≡ b → IsIn k (cond b (unnamed i) (named bs) ∷ []) → (has same_key (map named xs) k ≡ true) ⊎ (has same_key (cond b (unnamed i ∷ []) []) k ≡ true)) [
+      | true ↦ λ e m. elim m [ inl q ↦ inr (subst (λ h. has same_key (unnamed i ∷ []) h ≡ true) q (ap (λ b. b || false) (eq-eqb i i refl))) | inr z ↦ absurd z ]
+      | false ↦ λ e m. elim m [ inl q ↦ inl (subst (λ h. has same_key (map named xs) h ≡ true) q (has-named (map named xs) bs ∙ ap (λ ts. has same_text ts bs) (texts_of-map xs) ∙ a refl e)) | inr z ↦ absurd z ]
+    ] refl m
+known_here xs i _ bs a k m = absurd m
+
+pub known_keys : (xs : List Text) (i : ℕ) (ws : List Word) → AllIn xs ws → (k : Key) → IsIn k (keys_from i ws) → (has same_key (map named xs) k ≡ true) ⊎ (has same_key (unnamed_from i ws) k ≡ true)
+known_keys xs i [] a k m = absurd m
+known_keys xs i (w ∷ ws) a k m = elim (IsIn-either k (key_here i w.kind w.text) (keys_from (suc i) ws) m) [
+  | inl j ↦ elim (known_here xs i w.kind w.text a.0 k j) [
+    | inl h ↦ inl h
+    | inr h ↦ inr (has-left (unnamed_here i w.kind w.text) (unnamed_from (suc i) ws) k h)
+  ]
+  | inr j ↦ elim (known_keys xs (suc i) ws a.1 k j) [
+    | inl h ↦ inl h
+    | inr h ↦ inr (has-right (unnamed_here i w.kind w.text) (unnamed_from (suc i) ws) k h)
+  ]
+]

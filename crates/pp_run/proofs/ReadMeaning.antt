@@ -1,24 +1,20 @@
--- What is read of a fact and of a goal is what they mean.
-use Rattle.std.proofs.Common.{◌≡◌, ℕ, zero, suc, ◌+◌, ◌*◌, ◌<◌, ◌≤◌, Bool, true, false, ◌&&◌, ◌||◌, cond, List, [], ◌∷◌, ◌++◌, length, map, drop, get_or, refl, ap, sym, ◌∙◌, subst, arith, append_assoc, append-nil, inl}
-use Rattle.std.specs.Prelude.{codes, filter, All}
+-- The names of what is read of a fact or a goal.
+use Rattle.std.proofs.Common.{◌≡◌, ℕ, zero, suc, ◌+◌, ◌*◌, ◌<◌, ◌≤◌, Bool, true, false, cond, List, [], ◌∷◌, ◌++◌, length, map, drop, get_or, refl, ap, sym, ◌∙◌, subst, arith}
+use Rattle.std.specs.Prelude.{filter}
 use Rattle.std.specs.List.{list_all}
 use Rattle.std.proofs.lemmas.Bool.{and_parts}
-use Rattle.pp_algebra.specs.Terms.{Tree, Trees, variable, none, more, put_all}
-use Rattle.pp_algebra.specs.Canon.{has, place, firsts}
-use Rattle.pp_sld.specs.Goals.{Predicate, Clause}
+use Rattle.pp_algebra.specs.Canon.{place, firsts}
+use Rattle.pp_sld.specs.Goals.{Predicate}
 use Rattle.pp_language.specs.declared.token.Kind.{Kind}
-use Rattle.pp_language.specs.declared.token.Kind.TheVariants.{Atom, Quoted, Variable}
+use Rattle.pp_language.specs.declared.token.Kind.TheVariants.{Atom, Variable}
 use Rattle.pp_language.specs.declared.token.Token.{Token}
 use Rattle.pp_language.specs.Texts.{Text, same_text, part}
-use Rattle.pp_language.specs.FirstForm.{Word, word, word_of, Said, said_words, more_words, argument_words, is_name_kind, is_atom_kind, is_argument_kind, atom_of}
-use Rattle.pp_language.specs.FirstMeaning.{names_in, Key, same_key, argument_by, arguments_from, keys_of, numbered, fact_of, query_of}
-use Rattle.pp_term.specs.Columns.{trees_of}
+use Rattle.pp_language.specs.FirstForm.{Word, word, word_of, Said, said_words, more_words, argument_words, is_name_kind, is_argument_kind, atom_of}
+use Rattle.pp_language.specs.FirstMeaning.{names_in}
 use Rattle.pp_term.proofs.Numbering.{firsts-append}
 use Rattle.pp_run.specs.declared.read.form.Place.{Place}
 use Rattle.pp_run.specs.ReadWords.{words_of, said_at, said_first, width, IsSaidAt}
-use Rattle.pp_run.specs.ReadTerms.{name_of, new_names, new_named, next_of, term_of, names_all, named_all, next_all, terms_all, Becomes}
-use Rattle.pp_resolve.specs.Facts.{IsAtom, IsFact}
-use Rattle.pp_run.proofs.ReadSaid.{SaidParts, said_parts}
+use Rattle.pp_run.specs.ReadTerms.{name_of, new_names, new_named, next_of, names_all, named_all, terms_all}
 use Rattle.pp_run.proofs.ReadPlaces.{word_here, words_of-length}
 use Rattle.pp_run.proofs.ReadTexts.{Extends, extends_back, place_then, argument_here, arguments-length}
 
@@ -106,56 +102,11 @@ name_number s old one new all n e f g h =
     let x : Extends one all = extends_back one (names_all s.arguments) all (subst (λ ns. Extends ns all) g h) in
     f ∙ ap (λ ns. place same_text ns (name_of s)) e ∙ sym (place_then old all (name_of s) (subst (λ ns. Extends ns all) e x))
 
-atom_is_argument : (k : Kind) → is_atom_kind k ≡ true → is_argument_kind k ≡ true
-atom_is_argument Atom h = refl
-atom_is_argument _ h = absurd (cc)
-
-pub atoms_are_arguments : (ws : List Word) → list_all (λ w. is_atom_kind w.kind) ws ≡ true → list_all (λ w. is_argument_kind w.kind) ws ≡ true
-atoms_are_arguments [] h = refl
-atoms_are_arguments (w ∷ ws) h =
-    let p = and_parts (is_atom_kind w.kind) (list_all (λ w. is_atom_kind w.kind) ws) h in
-    ap (λ b. b && list_all (λ w. is_argument_kind w.kind) ws) (atom_is_argument w.kind p.0) ∙ atoms_are_arguments ws p.1
-
--- ===== a fact
+-- ===== what facts and goals share
 
 pub terms_all-length : (names named : List Text) (n : ℕ) (ws : List Word) → length (terms_all names named n ws) ≡ length ws
 terms_all-length names named n [] = refl
 terms_all-length names named n (w ∷ ws) = ap suc (terms_all-length names named (next_of n w.kind w.text) ws)
 
-behind : (t : Tree ℕ) (ts us : Trees ℕ) → ts ≡ us → more t ts ≡ more t us
-behind t ts us e = ap (more t) e
-
-atoms_numbered : (ks : List Key) (names named : List Text) (i n : ℕ) (ws : List Word) → list_all (λ w. is_atom_kind w.kind) ws ≡ true → numbered ks (arguments_from names i ws) ≡ trees_of (terms_all names named n ws)
-atoms_numbered ks names named i n [] h = refl
-atoms_numbered ks names named i n (w ∷ ws) h =
-    let p = and_parts (is_atom_kind w.kind) (list_all (λ w. is_atom_kind w.kind) ws) h in
-    elim w.kind as (λ k. is_atom_kind k ≡ true → put_all (λ h. variable (place same_key ks h)) (more (argument_by names i k w.text) (arguments_from names (suc i) ws)) ≡ trees_of (term_of names named n k w.text ∷ terms_all names named (next_of n k w.text) ws)) [
-      | Atom ↦ λ a. behind _ _ _ (atoms_numbered ks names named (suc i) n ws p.1)
-      | _ ↦ λ a. absurd (cc)
-    ] p.0
-
-all_atoms : (names named : List Text) (n : ℕ) (ws : List Word) → list_all (λ w. is_atom_kind w.kind) ws ≡ true → (k : ℕ) (d : Tree ℕ) → k < length (terms_all names named n ws) → IsAtom (get_or (terms_all names named n ws) k d)
-all_atoms names named n [] h k d l = absurd (omega arith)
-all_atoms names named n (w ∷ ws) h zero d l = elim w.kind as (λ k. is_atom_kind k ≡ true → IsAtom (term_of names named n k w.text)) [ Atom ↦ λ a. tt | _ ↦ λ a. absurd (cc) ] (and_parts (is_atom_kind w.kind) (list_all (λ w. is_atom_kind w.kind) ws) h).0
-all_atoms names named n (w ∷ ws) h (suc k) d l = all_atoms names named (next_of n w.kind w.text) ws (and_parts (is_atom_kind w.kind) (list_all (λ w. is_atom_kind w.kind) ws) h).1 k d (omega arith)
-
 abbrev pub make_predicate : ℕ → ℕ → Predicate
 make_predicate n a = record { name = n; arity = a }
-
-abbrev pub make_clause : Predicate → Trees ℕ → Predicate × Clause
-make_clause p ts = (p, record { head = ts; body = [] })
-
-module _ (s : Said) (old one new named : List Text) (n a : ℕ) (head : List (Tree ℕ)) (parts : SaidParts is_atom_kind s)
-    (e : one ≡ firsts same_text old (name_of s ∷ [])) (f : n ≡ place same_text one (name_of s)) (g : new ≡ firsts same_text one (names_all s.arguments)) (arity : a ≡ length s.arguments) (h : Becomes new named 0 s.arguments head) where
-  pub fact_means : (later : List Text) → make_clause (make_predicate n a) (trees_of head) ≡ fact_of (firsts same_text new later) s
-  fact_means later =
-      let all = firsts same_text new later in
-      ap (λ m. make_clause (make_predicate m a) (trees_of head)) (name_number s old one new all n e f g (later, refl))
-      ∙ ap (λ m. make_clause (make_predicate (place same_text all (name_of s)) m) (trees_of head)) arity
-      ∙ ap (λ ts. make_clause (make_predicate (place same_text all (name_of s)) (length s.arguments)) ts) (ap trees_of (h later []) ∙ sym (atoms_numbered (keys_of (arguments_from all 0 s.arguments)) all named 0 0 s.arguments parts.kinds))
-
-  pub fact_arity : length head ≡ a
-  fact_arity = ap (λ ts. length ts) (h [] []) ∙ terms_all-length new named 0 s.arguments ∙ sym arity
-
-  pub fact_atoms : All IsAtom head
-  fact_atoms = subst (All IsAtom) (sym (h [] [])) (all_atoms new named 0 s.arguments parts.kinds)

@@ -1,6 +1,6 @@
 -- What stands at a place of the tokens of a text.
-use Rattle.std.proofs.Common.{◌≡◌, ℕ, zero, suc, ◌+◌, ◌*◌, ◌<◌, ◌≤◌, Bool, true, false, ◌&&◌, cond, List, [], ◌∷◌, ◌++◌, length, map, drop, drop-drop, get_or, Option, Some, None, refl, ap, sym, ◌∙◌, subst, arith, length-drop}
-use Rattle.std.specs.Prelude.{IsTrue, MatchOption}
+use Rattle.std.proofs.Common.{◌≡◌, ℕ, zero, suc, ◌<◌, ◌≤◌, Bool, true, false, List, [], ◌∷◌, ◌++◌, length, map, drop, drop-drop, get_or, Option, Some, None, refl, ap, sym, ◌∙◌, subst, arith, length-drop}
+use Rattle.std.specs.Prelude.{MatchOption}
 use Rattle.std.proofs.lemmas.List.{drop-map}
 use Rattle.std.proofs.Math.Seq.{drop-cons, drop-append_seam}
 use Rattle.pp_language.specs.declared.token.Kind.{Kind}
@@ -8,8 +8,7 @@ use Rattle.pp_language.specs.declared.token.Token.{Token}
 use Rattle.pp_language.specs.Texts.{Text, part}
 use Rattle.pp_language.specs.Tokens.{IsTokenOf, AreTokensOf}
 use Rattle.pp_language.specs.FirstForm.{Word, word_of, Said, said_words, is_name_kind, atom_of, is_built_in}
-use Rattle.pp_run.specs.declared.read.form.Place.{Place}
-use Rattle.pp_run.specs.ReadWords.{AreTokens, IsBuiltInAnswer, words_of, kinds_of, arity_of, said_at, said_first, width, IsSaidAt, IsNoLeft, HasNoSaid}
+use Rattle.pp_run.specs.ReadWords.{AreTokens, IsBuiltInAnswer, words_of, kinds_of, arity_of, said_first, width, IsSaidAt, IsNoLeft, HasNoSaid}
 use Rattle.pp_run.proofs.ReadSaid.{tokens-spelled, drop-spelled, kinds_at, word_kinds, Found, found, said_words-count, said_words-length, SaidParts, said_parts, said_whole, some_is}
 
 pub token_of : (text : Text) (i : ℕ) (ts : List Token) (j k : ℕ) (d : Token) → AreTokensOf text i ts j → k < length ts → IsTokenOf text (get_or ts k d)

@@ -1,7 +1,7 @@
 -- What is read of a query is what it means.
-use Rattle.std.proofs.Common.{◌≡◌, ℕ, zero, suc, ◌+◌, ◌<◌, ◌≤◌, ◌⊎◌, inl, inr, Bool, true, false, ◌||◌, cond, List, [], ◌∷◌, ◌++◌, length, map, refl, ap, sym, ◌∙◌, subst, arith, length-append}
+use Rattle.std.proofs.Common.{◌≡◌, ℕ, suc, ◌+◌, ◌<◌, ◌≤◌, ◌⊎◌, inl, inr, Bool, true, false, ◌||◌, cond, List, [], ◌∷◌, ◌++◌, length, map, refl, ap, sym, ◌∙◌, subst, arith, length-append}
 use Rattle.std.specs.Prelude.{codes}
-use Rattle.pp_algebra.specs.Terms.{Tree, Trees, node, variable, none, more, variables, variables_all}
+use Rattle.pp_algebra.specs.Terms.{Tree, Trees, variable, variables, variables_all}
 use Rattle.pp_algebra.specs.Canon.{has, place, firsts}
 use Rattle.pp_algebra.specs.Covers.{IsIn}
 use Rattle.pp_algebra.proofs.CanonLemmas.{has-all}
@@ -12,11 +12,11 @@ use Rattle.pp_language.specs.declared.token.Kind.TheVariants.{Variable}
 use Rattle.pp_language.specs.Texts.{Text, same_text}
 use Rattle.pp_language.specs.Programs.{Query, infers}
 use Rattle.pp_language.specs.FirstForm.{Word, Said}
-use Rattle.pp_language.specs.FirstMeaning.{Key, named, arguments_from, keys_of, named_first, texts_of, numbered, query_of}
+use Rattle.pp_language.specs.FirstMeaning.{named, arguments_from, keys_of, named_first, texts_of, numbered, query_of}
 use Rattle.pp_term.specs.Columns.{trees_of}
 use Rattle.pp_term.proofs.Keys.{same_text-IsSame}
 use Rattle.pp_run.specs.declared.read.form.Place.{Place}
-use Rattle.pp_run.specs.RunStores.{AreBelow}
+use Rattle.pp_term.specs.WellFormed.{AreBelow}
 use Rattle.pp_run.specs.ReadWords.{said_at, IsSaidAt}
 use Rattle.pp_run.specs.ReadTerms.{name_of, new_named, next_of, term_of, names_all, named_all, next_all, terms_all, Becomes}
 use Rattle.pp_run.proofs.ReadSaid.{said_parts}
@@ -67,7 +67,7 @@ all_in : (xs : List Text) (ws : List Word) → ((v : Text) → IsIn v (named_all
 all_in xs [] h = tt
 all_in xs (w ∷ ws) h = ((λ e f. h w.text (in_left w.text (new_named w.kind w.text) (named_all ws) (in_new w.kind w.text e f))), all_in xs ws (λ v i. h v (in_right v (new_named w.kind w.text) (named_all ws) i)))
 
-all_named : (ws : List Word) → AllIn (firsts same_text [] (named_all ws)) ws
+pub all_named : (ws : List Word) → AllIn (firsts same_text [] (named_all ws)) ws
 all_named ws = all_in (firsts same_text [] (named_all ws)) ws (λ v i. has-all same_text same_text-IsSame [] (named_all ws) v i)
 
 -- ===== the numbers of variables

@@ -1,21 +1,20 @@
 -- The terms of arguments, as far as a loop over them has come.
-use Rattle.std.proofs.Common.{◌≡◌, ℕ, zero, suc, ◌+◌, ◌*◌, ◌<◌, ◌≤◌, Bool, true, false, cond, List, [], ◌∷◌, ◌++◌, length, drop, drop-drop, get_or, refl, ap, sym, ◌∙◌, subst, arith, append_assoc, append-nil, inl}
+use Rattle.std.proofs.Common.{◌≡◌, ℕ, zero, suc, ◌+◌, ◌*◌, ◌<◌, ◌≤◌, true, false, cond, List, [], ◌∷◌, ◌++◌, length, drop, drop-drop, get_or, refl, ap, sym, ◌∙◌, subst, arith, append_assoc, append-nil, inl}
 use Rattle.std.specs.Prelude.{codes}
-use Rattle.std.proofs.Math.Seq.{drop-cons}
 use Rattle.pp_algebra.specs.Terms.{Tree, node, variable, none}
-use Rattle.pp_algebra.specs.Canon.{has, place, firsts}
+use Rattle.pp_algebra.specs.Canon.{place, firsts}
 use Rattle.pp_algebra.proofs.CanonLemmas.{has-all}
 use Rattle.pp_language.specs.declared.token.Kind.{Kind}
 use Rattle.pp_language.specs.declared.token.Kind.TheVariants.{Variable}
 use Rattle.pp_language.specs.declared.token.Token.{Token}
 use Rattle.pp_language.specs.Texts.{Text, same_text, part}
-use Rattle.pp_language.specs.FirstForm.{Word, word_of, Said, atom_of}
+use Rattle.pp_language.specs.FirstForm.{Word, word_of}
 use Rattle.pp_term.proofs.Keys.{same_text-IsSame}
 use Rattle.pp_term.proofs.Numbering.{place_stays, firsts-append}
 use Rattle.pp_run.specs.declared.read.form.Place.{Place}
 use Rattle.pp_run.specs.ReadWords.{words_of, said_at, said_first, alternate, width}
 use Rattle.pp_run.specs.ReadTerms.{new_names, new_named, next_of, term_of, names_all, named_all, next_all, terms_all, Becomes}
-use Rattle.pp_run.proofs.ReadPlaces.{word_here, words_of-length}
+use Rattle.pp_run.proofs.ReadPlaces.{word_here}
 
 -- the second list is the first one with more behind it
 abbrev pub Extends : List Text → List Text → Type 0

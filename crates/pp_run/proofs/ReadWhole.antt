@@ -1,6 +1,6 @@
 -- A program is read exactly where the words are those of a text of the first form.
-use Rattle.std.proofs.Common.{◌≡◌, ℕ, zero, suc, ◌+◌, ◌<◌, ◌≤◌, Bool, true, false, ◌&&◌, cond, List, [], ◌∷◌, ◌++◌, length, map, drop, get_or, refl, ap, sym, ◌∙◌, subst, arith, append_assoc, append-nil, length-append, Option, Some, None}
-use Rattle.std.specs.Prelude.{codes, filter, All, IsTrue, nat_le}
+use Rattle.std.proofs.Common.{◌≡◌, ℕ, suc, ◌+◌, ◌<◌, ◌≤◌, Bool, true, ◌&&◌, List, [], ◌∷◌, ◌++◌, length, map, drop, refl, ap, sym, ◌∙◌, subst, arith, append_assoc, append-nil, length-append, None}
+use Rattle.std.specs.Prelude.{codes, All}
 use Rattle.std.specs.List.{flat_map, list_all}
 use Rattle.std.proofs.lemmas.Grind.{flat_map-append}
 use Rattle.std.proofs.lemmas.List.{map-append}
@@ -8,12 +8,11 @@ use Rattle.std.proofs.lemmas.List.Elements.{All-push}
 use Rattle.std.proofs.lemmas.Bool.{and_parts, leb-true, le-leb}
 use Rattle.pp_algebra.specs.Canon.{firsts}
 use Rattle.pp_sld.specs.Goals.{Predicate, Clause}
-use Rattle.pp_language.specs.declared.token.Kind.{Kind}
 use Rattle.pp_language.specs.declared.token.Kind.TheVariants.{Atom, Infers, Point, Ask}
 use Rattle.pp_language.specs.declared.token.Token.{Token}
 use Rattle.pp_language.specs.Texts.{Text, same_text}
 use Rattle.pp_language.specs.Programs.{Query, Written}
-use Rattle.pp_language.specs.FirstForm.{Word, word, Said, said_words, argument_words, point, fact_words, goal_words, FirstText, first_words, is_name_kind, is_atom_kind, is_argument_kind, is_said, is_first}
+use Rattle.pp_language.specs.FirstForm.{Word, word, Said, said_words, point, fact_words, goal_words, FirstText, first_words, is_name_kind, is_argument_kind, is_said, is_first}
 use Rattle.pp_language.specs.FirstMeaning.{names_in, names_of, fact_of, query_of, written_by}
 use Rattle.pp_language.proofs.Saids.{facts-split, first_parts, said-named}
 use Rattle.pp_term.proofs.Numbering.{firsts-append}
@@ -43,7 +42,7 @@ names_in-goal s = names_in-append (said_words s) (word Infers (codes "infers") �
 pub record FactsTo (ws : List Word) (names : List Text) (facts : List Fact) (at : ℕ) : Type 0 where
   pub saids : List Said
   pub words : ws ≡ flat_map fact_words saids ++ drop at ws
-  pub good : list_all (is_said is_atom_kind) saids ≡ true
+  pub good : list_all (is_said is_argument_kind) saids ≡ true
   pub count : length saids ≡ length facts
   pub few : length facts ≤ 65535
   pub within : at ≤ length ws
@@ -64,7 +63,7 @@ module _ (ws : List Word) (names : List Text) (facts : List Fact) (at : ℕ) (h 
       record {
         saids = h.saids ++ s ∷ [];
         words = h.words ∙ ap (λ us. flat_map fact_words h.saids ++ us) (ap (λ i. drop i ws) (sym q) ∙ k.words) ∙ sym (append_assoc (flat_map fact_words h.saids) (fact_words s) (drop (p.name + width p.arity + 1) ws)) ∙ ap (λ us. us ++ drop (p.name + width p.arity + 1) ws) (sym last) ∙ ap (λ i. flat_map fact_words (h.saids ++ s ∷ []) ++ drop i ws) (sym e);
-        good = list_all-push (is_said is_atom_kind) h.saids s h.good k.said.is_said;
+        good = list_all-push (is_said is_argument_kind) h.saids s h.good k.said.is_said;
         count = length-append h.saids (s ∷ []) ∙ omega (arith, h.count, size);
         few = (let m : length facts < 65535 = omega (arith, h.few, full) in omega (arith, size, m));
         within = omega (arith, k.fits);
@@ -83,12 +82,12 @@ module _ (ws : List Word) (names : List Text) (facts : List Fact) (at : ℕ) (h 
     others : List Said
     facts_are : f.facts ≡ h.saids ++ others
     words_are : drop at ws ≡ flat_map fact_words others ++ goal_words f.goal
-    good : list_all (is_said is_atom_kind) others ≡ true
+    good : list_all (is_said is_argument_kind) others ≡ true
 
   rest : (f : FirstText) → ws ≡ first_words f → is_first f ≡ true → Rest f
   rest f e i =
-      let r = facts-split is_atom_kind h.saids f.facts (drop at ws) f.goal h.good (sym h.words ∙ e) in
-      record { others = r.0; facts_are = r.1; words_are = r.2; good = list_all-behind (is_said is_atom_kind) h.saids r.0 (sym (ap (list_all (is_said is_atom_kind)) r.1) ∙ (first_parts f i).facts) }
+      let r = facts-split is_argument_kind h.saids f.facts (drop at ws) f.goal h.good (sym h.words ∙ e) in
+      record { others = r.0; facts_are = r.1; words_are = r.2; good = list_all-behind (is_said is_argument_kind) h.saids r.0 (sym (ap (list_all (is_said is_argument_kind)) r.1) ∙ (first_parts f i).facts) }
 
 -- ===== where reading stops
 
@@ -114,7 +113,7 @@ module _ (text : Text) (ts : List Token) (names : List Text) (facts : List Fact)
       let r = rest (words_of text ts) names facts at h f e i in
       no_more n f r (λ z zs k.
       m z (flat_map fact_words zs ++ goal_words f.goal) (r.words_are ∙ ap (λ us. flat_map fact_words us ++ goal_words f.goal) k ∙ append_assoc (fact_words z) (flat_map fact_words zs) (goal_words f.goal))
-      (and_parts (is_said is_atom_kind z) (list_all (is_said is_atom_kind) zs) (sym (ap (list_all (is_said is_atom_kind)) k) ∙ r.good)).0)
+      (and_parts (is_said is_argument_kind z) (list_all (is_said is_argument_kind) zs) (sym (ap (list_all (is_said is_argument_kind)) k) ∙ r.good)).0)
 
   pub no_goal : HasKindAt ts at Ask → HasNoGoal (drop at (words_of text ts)) → IsRead (words_of text ts) None
   no_goal a m = λ f e i. let r = rest (words_of text ts) names facts at h f e i in cases f i r r.others refl
@@ -123,7 +122,7 @@ module _ (text : Text) (ts : List Token) (names : List Text) (facts : List Fact)
       cases f i r [] e = m f.goal (r.words_are ∙ ap (λ us. flat_map fact_words us ++ goal_words f.goal) e) (first_parts f i).goal
       cases f i r (z ∷ zs) e =
           let w = r.words_are ∙ ap (λ us. flat_map fact_words us ++ goal_words f.goal) e in
-          let named = said-named is_atom_kind z (and_parts (is_said is_atom_kind z) (list_all (is_said is_atom_kind) zs) (sym (ap (list_all (is_said is_atom_kind)) e) ∙ r.good)).0 in
+          let named = said-named is_argument_kind z (and_parts (is_said is_argument_kind z) (list_all (is_said is_argument_kind) zs) (sym (ap (list_all (is_said is_argument_kind)) e) ∙ r.good)).0 in
           let k = has_kind text ts at z.name _ w in
           let d : Token = record { kind = Point; first = 0; last = 0 } in
           let bad : is_name_kind Ask ≡ true = ap is_name_kind (sym (a.1 d) ∙ k.1 d) ∙ named in

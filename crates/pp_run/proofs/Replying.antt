@@ -10,11 +10,11 @@ use Rattle.pp_language.specs.Texts.{Text}
 use Rattle.pp_language.specs.Answers.{store_text, unbuilt_text}
 use Rattle.pp_language.specs.Programs.{Written}
 use Rattle.pp_language.specs.FirstMeaning.{IsFirstForm}
-use Rattle.pp_propagation.specs.Runs.{End as Finished, yes, no, stopped, Run}
+use Rattle.pp_propagation.specs.Runs.{End as Finished, yes, no, stopped}
 use Rattle.pp_propagation.specs.Replies.{status_of, answer_by, run_depth, run_turns, IsReplyToText}
 use Rattle.pp_run.specs.declared.run.End.{End}
 use Rattle.pp_run.specs.declared.run.End.TheVariants.{Yes, No, Stopped}
-use Rattle.pp_term.specs.Predicates.{predicate_of}
+use Rattle.pp_term.specs.Meanings.{predicate_of}
 use Rattle.pp_resolve.specs.declared.fact.Fact.{Fact}
 use Rattle.pp_resolve.specs.Facts.{program}
 use Rattle.pp_run.specs.declared.read.program.Program.{Program}

@@ -4,7 +4,8 @@ use Rattle.pp_algebra.specs.Terms.{Tree, Trees}
 use Rattle.pp_algebra.specs.Rows.{Row}
 use Rattle.pp_language.specs.Texts.{Text}
 use Rattle.pp_language.specs.Answers.{line, lines, last_line, first_columns, named_lines, domain_lines, store_text}
-use Rattle.pp_term.specs.Columns.{trees_of, any_domains}
+use Rattle.pp_term.specs.Columns.{trees_of}
+use Rattle.pp_resolve.specs.FlatRows.{any_domains}
 
 no_domain_lines : (columns : Trees ℕ) (v n : ℕ) → domain_lines columns v (any_domains n) ≡ []
 no_domain_lines columns v zero = refl

@@ -3,7 +3,6 @@ pub mod ReadWords
 pub mod ReadTerms
 pub mod ReadPrograms
 pub mod RunStores
-pub mod RunPlaces
 pub mod RunOutcomes
 pub mod Answered
 pub mod ReadFirst

@@ -3,12 +3,14 @@ use Rattle.std.specs.Prelude.{◌≡◌, List, length, map, IsTrue, Option, Some
 use Rattle.pp_language.specs.Programs.{Query as Asked, Written}
 use Rattle.pp_language.specs.FirstForm.{Word, FirstText, first_words, is_first}
 use Rattle.pp_language.specs.FirstMeaning.{written_by}
-use Rattle.pp_term.specs.Predicates.{predicate_of}
+use Rattle.pp_term.specs.Meanings.{predicate_of}
 use Rattle.pp_resolve.specs.Facts.{IsFact, clause_of}
 use Rattle.pp_run.specs.declared.read.program.Program.{Program}
 use Rattle.pp_run.specs.declared.read.program.Query.{Query}
 use Rattle.pp_run.specs.RunOutcomes as outcomes
-use Rattle.pp_run.specs.RunStores.{AreBelow}
+use Rattle.pp_term.specs.Columns.{trees_of}
+use Rattle.pp_term.specs.WellFormed.{AreBelow}
+use Rattle.pp_resolve.specs.FlatRows.{AreFlat}
 
 abbrev pub query_by : Query → Asked
 query_by q = outcomes.query_by q.variables (map (λ v. v.items) q.named.items) (predicate_of q.pred) q.arguments.items
@@ -16,10 +18,11 @@ query_by q = outcomes.query_by q.variables (map (λ v. v.items) q.named.items) (
 abbrev pub written_of : Program → Written
 written_of p = record { names = p.names; clauses = map clause_of p.facts.items; query = query_by p.query }
 
--- as many arguments as the predicate has, whose variables are those of the query
+-- as many arguments as the predicate has, atoms and variables of the query
 pub record IsRunnableQuery (q : Query) : Type 0 where
   pub arity : length q.arguments.items ≡ q.pred.arity
   pub below : AreBelow q.variables q.arguments.items
+  pub flat : AreFlat (trees_of q.arguments.items)
 
 pub record IsRunnable (p : Program) : Type 0 where
   pub facts : All IsFact p.facts.items

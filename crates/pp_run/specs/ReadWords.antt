@@ -1,14 +1,12 @@
 -- The words of a text, and what stands at a place among them.
-use Rattle.std.specs.Prelude.{◌≡◌, ℕ, zero, suc, ◌+◌, ◌*◌, ◌<◌, ◌≤◌, Bool, true, false, IsTrue, cond, List, [], ◌∷◌, ◌++◌, map, drop, length, slice_index_or, Option, Some, None, option_map, codes}
+use Rattle.std.specs.Prelude.{◌≡◌, ℕ, zero, suc, ◌+◌, ◌*◌, ◌<◌, ◌≤◌, Bool, IsTrue, cond, List, [], ◌∷◌, ◌++◌, map, drop, length, slice_index_or, Option, Some, None, option_map, codes}
 use Rattle.pp_language.specs.declared.token.Kind.{Kind}
 use Rattle.pp_language.specs.declared.token.Kind.TheVariants.{Left, Right, Comma, Infers, Atom}
 use Rattle.pp_language.specs.declared.token.Token.{Token}
 use Rattle.pp_language.specs.Texts.{Text}
 use Rattle.pp_language.specs.Kinds.{spells}
 use Rattle.pp_language.specs.Tokens.{AreTokensOf}
-use Rattle.pp_language.specs.FirstForm.{Word, word, word_of, Said, said_words, point, fact_words, goal_words, is_atom_kind, is_name_kind, is_argument_kind, atom_of, is_built_in, is_said}
-use Rattle.pp_run.specs.declared.read.form.Role.{Role}
-use Rattle.pp_run.specs.declared.read.form.Role.TheVariants.{Fact, Goal}
+use Rattle.pp_language.specs.FirstForm.{Word, word, word_of, Said, said_words, point, fact_words, goal_words, is_name_kind, is_argument_kind, atom_of, is_built_in, is_said}
 use Rattle.pp_run.specs.declared.read.form.Place.{Place}
 
 abbrev pub words_of : Text → List Token → List Word
@@ -23,10 +21,6 @@ AreTokens text ts = (last : ℕ) × AreTokensOf text 0 ts last
 
 abbrev pub HasKindAt : List Token → ℕ → Kind → Type 0
 HasKindAt ts i k = (i < length ts) × ((d : Token) → (slice_index_or ts i d).kind ≡ k)
-
-abbrev pub argument_kinds : Role → Kind → Bool
-argument_kinds Fact k = is_atom_kind k
-argument_kinds Goal k = is_argument_kind k
 
 -- how many arguments there are up to a closing parenthesis, with commas between them
 abbrev mutual
@@ -88,12 +82,12 @@ HasNoSaid ok ws = (s : Said) (rest : List Word) → ws ≡ said_words s ++ rest 
 
 -- a fact stands here
 pub record IsFactAt (ws : List Word) (p : Place) : Type 0 where
-  pub said : IsSaidAt is_atom_kind ws p
+  pub said : IsSaidAt is_argument_kind ws p
   pub fits : p.name + width p.arity < length ws
   pub words : drop p.name ws ≡ fact_words (said_at ws p) ++ drop (p.name + width p.arity + 1) ws
 
 abbrev pub HasNoFact : List Word → Type 0
-HasNoFact ws = (s : Said) (rest : List Word) → ws ≡ fact_words s ++ rest → IsTrue (is_said is_atom_kind s) → ⊥
+HasNoFact ws = (s : Said) (rest : List Word) → ws ≡ fact_words s ++ rest → IsTrue (is_said is_argument_kind s) → ⊥
 
 abbrev pub most_words : List Word
 most_words = word Infers (codes "infers") ∷ word Atom (codes "most") ∷ point ∷ []

@@ -1,5 +1,6 @@
 // The answer of a run: its status, and the bytes to be written.
 ghost use Rattle.std.specs.Prelude.{IfOk, map};
+ghost use Rattle.pp_resolve.specs.FlatRows.{IsFlatRow};
 ghost use Rattle.pp_run.specs.Answered.{Answers};
 
 use crate::print::store_text;
@@ -18,6 +19,7 @@ pub(crate) fn answer(
     named: &[Vec<u8>],
     outcome: &Outcome,
 ) -> Result<Reply, AllocError>
+    requires { IsFlatRow outcome.now.store }
     ensures { IfOk result (λ r. Answers names.now (map (λ v. v.items) named.now) outcome.now.end outcome.now.store r.status r.bytes.items) }
 {
     match outcome.end {

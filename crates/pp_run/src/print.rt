@@ -1,13 +1,15 @@
 // What is written of a run's store.
-ghost use Rattle.std.specs.Prelude.{◌≡◌, ◌++◌, [], ◌∷◌, IfOk, OnOk, map, codes};
+ghost use Rattle.std.specs.Prelude.{◌≡◌, ◌++◌, [], ◌∷◌, All, IfOk, OnOk, map, codes};
 ghost use Rattle.std.specs.List.{list_all};
 ghost use Rattle.pp_language.specs.Kinds.{is_plain_atom};
 ghost use Rattle.pp_language.specs.Texts.{is_lower, is_upper, is_digit, is_word};
 ghost use Rattle.pp_language.specs.Printing.{doubled, atom_text, name_at, variable_text, term_text};
 ghost use Rattle.pp_language.specs.Answers.{line, lines, last_line, named_lines, store_text};
 ghost use Rattle.pp_term.specs.Columns.{trees_of};
+ghost use Rattle.pp_resolve.specs.FlatRows.{IsFlat, IsFlatRow};
 
-use pp_term::{Cell, Names, Row, Term};
+use pp_resolve::Flat;
+use pp_term::{Names, Row, Term};
 use std::alloc::{AllocError, Global};
 
 const QUOTE: u8 = b'\'';
@@ -92,11 +94,12 @@ fn push_variable(out: &mut Vec<u8>, alloc: Global, variable: u32) -> Result<(), 
 
 /// Appends a term.
 fn push_term(out: &mut Vec<u8>, alloc: Global, names: &Names, term: &Term) -> Result<(), AllocError>
+    requires { IsFlat term.now }
     ensures { OnOk result (out.new.items ≡ out.old.items ++ term_text names.now term.now) }
 {
-    match term.top() {
-        Cell::Atom(name) => push_atom(out, name_text(names, name)),
-        Cell::Var(variable) => push_variable(out, alloc, variable),
+    match Flat::of(term) {
+        Flat::Atom(name) => push_atom(out, name_text(names, name)),
+        Flat::Var(variable) => push_variable(out, alloc, variable),
     }
 }
 
@@ -117,6 +120,7 @@ fn push_named(
     name: &[u8],
     term: &Term,
 ) -> Result<(), AllocError>
+    requires { IsFlat term.now }
     ensures { OnOk result (out.new.items ≡ out.old.items ++ line (name.now ++ codes " = " ++ term_text names.now term.now)) }
 {
     out.extend_from_slice(name)?;
@@ -134,6 +138,7 @@ fn push_all_named(
     named: &[Vec<u8>],
     columns: &[Term],
 ) -> Result<(), AllocError>
+    requires { All IsFlat columns.now }
     ensures { OnOk result (out.new.items ≡ out.old.items ++ lines (named_lines names.now (map (λ v. v.items) named.now) (trees_of columns.now))) }
 {
     for (i, name) in named.iter().enumerate() {
@@ -159,11 +164,11 @@ pub(crate) fn store_text(
     store: &Row,
     stopped: bool,
 ) -> Result<Vec<u8>, AllocError>
+    requires { IsFlatRow store.now }
     ensures { IfOk result (λ bytes. bytes.items ≡ store_text names.now (map (λ v. v.items) named.now) store.now [] stopped) }
 {
     let mut out = Vec::new(alloc);
     // Every variable of the store may be anything, so no domain is written.
-    let _variables = store.variables();
     push_all_named(&mut out, alloc, names, named, store.columns())?;
     push_line(&mut out, last_line(stopped))?;
     Ok(out)

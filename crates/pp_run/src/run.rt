@@ -4,10 +4,12 @@ ghost use Rattle.pp_algebra.specs.Terms.{Tree, count};
 ghost use Rattle.pp_language.specs.Texts.{Text};
 ghost use Rattle.pp_propagation.specs.Turns.{HasVerdict};
 ghost use Rattle.pp_propagation.specs.Replies.{run_depth};
-ghost use Rattle.pp_term.specs.Predicates.{predicate_of};
+ghost use Rattle.pp_term.specs.Meanings.{predicate_of};
 ghost use Rattle.pp_resolve.specs.Facts.{IsFact, program};
-ghost use Rattle.pp_run.specs.RunStores.{AreBelow};
-ghost use Rattle.pp_run.specs.RunOutcomes.{asked, query_by, verdict_by, IsOfWidth, end_by, Ran};
+ghost use Rattle.pp_term.specs.Columns.{trees_of};
+ghost use Rattle.pp_term.specs.WellFormed.{AreBelow};
+ghost use Rattle.pp_resolve.specs.FlatRows.{AreFlat, IsFlatRow};
+ghost use Rattle.pp_run.specs.RunOutcomes.{asked, query_by, verdict_by, IsOfWidth, IsFlatVerdict, end_by, Ran};
 
 use crate::store::{apply, face, opening};
 use pp_resolve::{Fact, first_answers, first_least};
@@ -42,9 +44,11 @@ enum Verdict {
 fn infer(alloc: Global, facts: &[Fact], pred: Pred, face: &Row) -> Result<Verdict, AllocError>
     requires facts { All IsFact facts.now }
     requires arity { count face.now.columns ≡ pred.arity }
+    requires flat { IsFlatRow face.now }
     ensures verdict { IfOk result (λ v. (depth : ℕ) (arguments : List (Tree ℕ)) →
         HasVerdict (program facts.now) (suc depth) (asked (predicate_of pred) arguments) face.now (verdict_by v)) }
     ensures width { IfOk result (λ v. IsOfWidth (length face.now.domains) v) }
+    ensures flat { IfOk result IsFlatVerdict }
 {
     let answers = first_answers(alloc, facts, pred, face)?;
     let Some(given) = first_least(alloc, &answers)? else {
@@ -72,8 +76,10 @@ pub(crate) fn run(
     requires facts { All IsFact facts.now }
     requires arity { length arguments.now ≡ pred.arity }
     requires below { AreBelow variables arguments.now }
-    ensures { IfOk result (λ o. (named : List Text) →
+    requires flat { AreFlat (trees_of arguments.now) }
+    ensures ran { IfOk result (λ o. (named : List Text) →
         Ran (program facts.now) (query_by variables named (predicate_of pred) arguments.now) run_depth turns (end_by o.end) o.store o.turns) }
+    ensures flat { IfOk result (λ o. IsFlatRow o.store) }
 {
     let mut store = opening(alloc, variables)?;
     let mut under = face(alloc, &store, arguments)?;

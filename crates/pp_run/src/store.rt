@@ -1,14 +1,20 @@
-// Stores: how they begin, a goal's face, and applying a row to a goal. So far each variable may be anything.
-ghost use Rattle.std.specs.Prelude.{◌≡◌, ℕ, ◌+◌, ◌<◌, ◌^◌, ◌≤◌, [], length, None, Some, IfOk, nat_eq, slice_index_or};
-ghost use Rattle.pp_algebra.specs.Terms.{variable, put, count, variables, variables_all};
+// Stores: how they begin, a goal's face, and applying a row to a goal.
+ghost use Rattle.std.specs.Prelude.{◌≡◌, ℕ, ◌+◌, ◌<◌, ◌^◌, ◌≤◌, ◌++◌, [], length, map, None, IfOk, OnOk, nat_eq};
+ghost use Rattle.pp_algebra.specs.Canon.{firsts};
 ghost use Rattle.pp_algebra.specs.Covers.{IsIn};
 ghost use Rattle.pp_algebra.specs.Solve.{IsSolved};
+ghost use Rattle.pp_algebra.specs.Terms.{put, count, variables, variables_all};
 ghost use Rattle.pp_sld.specs.Leaves.{variables_from};
 ghost use Rattle.pp_propagation.specs.Stores.{column, face, apply, face_variables};
+ghost use Rattle.pp_term.specs.Cells.{variables_in};
 ghost use Rattle.pp_term.specs.Columns.{trees_of};
-ghost use Rattle.pp_run.specs.RunStores.{OfGoal, AreBelow, IsWideEnough};
-ghost use Rattle.pp_run.specs.RunPlaces.{ArePlaces, TakesIn, place_at, put_by};
+ghost use Rattle.pp_term.specs.Substitution.{term_at};
+ghost use Rattle.pp_term.proofs.Renaming.{variables_among};
+ghost use Rattle.pp_term.specs.WellFormed.{AreBelow};
+ghost use Rattle.pp_run.specs.RunStores.{OfGoal, IsWideEnough, replacement, below};
 
+use indexmap::IndexSet;
+use pp_domain::Domain;
 use pp_term::{Cell, Row, Term};
 use std::alloc::{AllocError, Global};
 
@@ -20,18 +26,20 @@ pub(crate) fn opening(alloc: Global, variables: u32) -> Result<Row, AllocError>
     for variable in 0..variables {
         columns.push(Term::variable(alloc, variable)?)?;
     }
-    Row::canon(alloc, columns)
+    Row::canon(alloc, columns, &[])
 }
 
-/// An argument, or its column in the store where it is a variable.
-fn under<'a>(columns: &'a [Term], argument: &'a Term) -> &'a Term
-    requires { (v : ℕ) → argument.now ≡ variable v → v < length columns.now }
-    ensures { result.now ≡ put (column (trees_of columns.now)) argument.now }
+/// A goal's arguments, with the store's columns in place of the variables.
+fn arguments_under(alloc: Global, store: &Row, arguments: &[Term]) -> Result<Vec<Term>, AllocError>
+    requires { AreBelow (count store.now.columns) arguments.now }
+    ensures { IfOk result (λ ts. ts.items ≡ map (put (column store.now.columns)) arguments.now) }
 {
-    match argument.top() {
-        Cell::Atom(_) => argument,
-        Cell::Var(variable) => &columns[variable as usize],
+    let columns = store.columns();
+    let mut terms = Vec::with_capacity(alloc, arguments.len())?;
+    for argument in arguments {
+        terms.push(argument.substituted(columns)?)?;
     }
+    Ok(terms)
 }
 
 /// The face of a goal of these arguments.
@@ -39,89 +47,132 @@ pub(crate) fn face(alloc: Global, store: &Row, arguments: &[Term]) -> Result<Row
     requires { AreBelow (count store.now.columns) arguments.now }
     ensures { IfOk result (λ r. OfGoal arguments.now (λ g. r ≡ face store.now g)) }
 {
-    let _variables = store.variables();
-    let columns = store.columns();
-    let mut terms = Vec::with_capacity(alloc, arguments.len())?;
-    for argument in arguments {
-        terms.push(under(columns, argument).copy()?)?;
-    }
-    Row::canon(alloc, terms)
+    let terms = arguments_under(alloc, store, arguments)?;
+    Row::canon(alloc, terms, store.domains())
 }
 
-/// Gives the next place to a variable that has none.
-fn give_place(places: &mut [Option<usize>], count: &mut usize, term: &Term)
-    requires known { (v : ℕ) → term.now ≡ variable v → v < length places.old }
-    requires room { count.old < 2 ^ 63 }
-    ensures places { TakesIn places.old count.old (variables term.now) places.new count.new }
-    ensures small { count.new ≤ count.old + 1 }
+/// Takes in the variable of a cell.
+fn take_variable(names: &mut IndexSet<u32>, cell: &Cell) -> Result<(), AllocError>
+    ensures { OnOk result (names.new.keys ≡ firsts nat_eq names.old.keys (variables_in cell.now)) }
 {
-    let Cell::Var(variable) = term.top() else {
-        return;
-    };
-    let place = &mut places[variable as usize];
-    if place.is_none() {
-        *place = Some(*count);
-        *count += 1;
+    if let Cell::Var(variable) = *cell {
+        names.insert(variable)?;
     }
+    Ok(())
 }
 
-/// The place of each of the store's variables among those of the face, in order of first occurrence.
-fn face_places(
+/// Takes in the variables of these cells.
+fn take_variables(names: &mut IndexSet<u32>, cells: &[Cell]) -> Result<(), AllocError>
+    ensures { OnOk result (names.new.keys ≡ firsts nat_eq names.old.keys (variables_among cells.now)) }
+{
+    for cell in cells {
+        take_variable(names, cell)?;
+    }
+    Ok(())
+}
+
+/// The variables of terms in order of first occurrence.
+fn variables_of(alloc: Global, terms: &[Term]) -> Result<IndexSet<u32>, AllocError>
+    ensures { IfOk result (λ names. names.keys ≡ firsts nat_eq [] (variables_all (trees_of terms.now))) }
+{
+    let mut names = IndexSet::new(alloc);
+    for term in terms {
+        take_variables(&mut names, term.cells())?;
+    }
+    Ok(names)
+}
+
+/// What stands for a variable: the column at its place where it is one of `names`, whose variables are counted from
+/// `count`, or else itself.
+fn replacement(
     alloc: Global,
-    store: &Row,
-    arguments: &[Term],
-) -> Result<Vec<Option<usize>>, AllocError>
-    requires { AreBelow (count store.now.columns) arguments.now }
-    ensures { IfOk result (λ ps. OfGoal arguments.now (λ g. ArePlaces (length store.now.domains) (face_variables store.now g) ps.items)) }
-{
-    let columns = store.columns();
-    let mut places = vec![in alloc; None; store.variables() as usize]?;
-    let mut count = 0;
-    for argument in arguments {
-        give_place(&mut places, &mut count, under(columns, argument));
-    }
-    Ok(places)
-}
-
-/// The place of a column of the store that is a variable of the face.
-fn place_of(column: &Term, places: &[Option<usize>]) -> Option<usize>
-    requires { (v : ℕ) → column.now ≡ variable v → v < length places.now }
-    ensures { result ≡ place_at places.now column.now }
-{
-    match column.top() {
-        Cell::Atom(_) => None,
-        Cell::Var(variable) => places[variable as usize],
-    }
-}
-
-/// A term with other numbers for its variables, which go on from `first`.
-fn shifted(alloc: Global, term: &Term, first: u32) -> Result<Term, AllocError>
-    requires { (v : ℕ) → term.now ≡ variable v → first + v < 2 ^ 32 }
-    ensures { IfOk result (λ t. t ≡ put (λ w. variable (first + w)) term.now) }
-{
-    match term.top() {
-        Cell::Atom(_) => term.copy(),
-        Cell::Var(variable) => Term::variable(alloc, first + variable),
-    }
-}
-
-/// A column of the store once the row of the columns `given` is applied, whose variables are numbered from `first`.
-fn replaced(
-    alloc: Global,
-    column: &Term,
-    places: &[Option<usize>],
-    given: &[Term],
-    first: u32,
+    count: u32,
+    names: &IndexSet<u32>,
+    columns: &[Term],
+    variable: u32,
 ) -> Result<Term, AllocError>
-    requires known { (v : ℕ) → column.now ≡ variable v → v < length places.now }
-    requires within { (v : ℕ) (k : ℕ) → slice_index_or places.now v None ≡ Some k → k < length given.now }
-    requires fits { (v : ℕ) → IsIn v (variables_all (trees_of given.now)) → first + v < 2 ^ 32 }
-    ensures { IfOk result (λ t. t ≡ put (put_by places.now (trees_of given.now) first) column.now) }
+    requires within { length names.now.keys ≤ length columns.now }
+    requires fits { (v : ℕ) → IsIn v (variables_all (trees_of columns.now)) → count + v < 2 ^ 32 }
+    ensures { IfOk result (λ t. t ≡ replacement count names.now.keys (trees_of columns.now) variable) }
 {
-    match place_of(column, places) {
-        None => column.copy(),
-        Some(place) => shifted(alloc, &given[place], first),
+    match names.get_index_of(&variable) {
+        Some(place) => columns[place].shifted(count),
+        None => Term::variable(alloc, variable),
     }
+}
+
+/// What stands for each of `count` variables.
+fn replacements(
+    alloc: Global,
+    count: u32,
+    names: &IndexSet<u32>,
+    columns: &[Term],
+) -> Result<Vec<Term>, AllocError>
+    requires within { length names.now.keys ≤ length columns.now }
+    requires fits { (v : ℕ) → IsIn v (variables_all (trees_of columns.now)) → count + v < 2 ^ 32 }
+    ensures { IfOk result (λ ts. ts.items ≡ map (replacement count names.now.keys (trees_of columns.now)) (below count)) }
+{
+    let mut terms = Vec::with_capacity(alloc, count as usize)?;
+    for variable in 0..count {
+        terms.push(replacement(alloc, count, names, columns, variable)?)?;
+    }
+    Ok(terms)
+}
+
+/// The columns with terms in place of their variables.
+fn replaced(alloc: Global, columns: &[Term], terms: &[Term]) -> Result<Vec<Term>, AllocError>
+    ensures { IfOk result (λ ts. ts.items ≡ map (put (term_at terms.now)) columns.now) }
+{
+    let mut replaced = Vec::with_capacity(alloc, columns.len())?;
+    for column in columns {
+        replaced.push(column.substituted(terms)?)?;
+    }
+    Ok(replaced)
+}
+
+/// A copy of a domain, where there is one.
+fn copy(domain: &Option<Domain>) -> Result<Option<Domain>, AllocError>
+    ensures { IfOk result (λ d. d ≡ domain.now) }
+{
+    match domain {
+        None => Ok(None),
+        Some(domain) => Ok(Some(domain.copy()?)),
+    }
+}
+
+/// Appends copies of domains.
+fn push_domains(
+    domains: &mut Vec<Option<Domain>>,
+    more: &[Option<Domain>],
+) -> Result<(), AllocError>
+    ensures { OnOk result (domains.new.items ≡ domains.old.items ++ more.now) }
+{
+    for domain in more {
+        domains.push(copy(domain)?).map_err(|_| AllocError)?;
+    }
+    Ok(())
+}
+
+/// How many variables a row has.
+pub(crate) fn variable_count(row: &Row) -> Result<u32, AllocError>
+    ensures { IfOk result (λ n. n ≡ length row.now.domains) }
+{
+    let count = u32::try_from(row.domains().len()).map_err(|_| AllocError)?;
+    Ok(count)
+}
+
+/// Copies of both lists of domains, one behind the other.
+fn both_domains(
+    alloc: Global,
+    first: &[Option<Domain>],
+    second: &[Option<Domain>],
+) -> Result<Vec<Option<Domain>>, AllocError>
+    ensures { IfOk result (λ ds. ds.items ≡ first.now ++ second.now) }
+{
+    let mut domains = Vec::with_capacity(alloc, first.len())?;
+    push_domains(&mut domains, first)?;
+    push_domains(&mut domains, second)?;
+    Ok(domains)
 }
 
 /// The store once a row is applied to a goal of these arguments.
@@ -136,15 +187,17 @@ pub(crate) fn apply(
     ensures { IfOk result (λ r. OfGoal arguments.now (λ g. r ≡ apply store.now g given.now)) }
 {
     // The given row's variables are fresh: they are numbered behind those of the store.
-    let first = store.variables();
-    let Some(_) = first.checked_add(given.variables()) else {
+    let variables = variable_count(store)?;
+    let more = variable_count(given)?;
+    let Some(_) = variables.checked_add(more) else {
         return Err(AllocError);
     };
-    let places = face_places(alloc, store, arguments)?;
-    let columns = store.columns();
-    let mut terms = Vec::with_capacity(alloc, columns.len())?;
-    for column in columns {
-        terms.push(replaced(alloc, column, &places, given.columns(), first)?)?;
-    }
-    Row::canon(alloc, terms)
+    let names = variables_of(alloc, &arguments_under(alloc, store, arguments)?)?;
+    let terms = replacements(alloc, variables, &names, given.columns())?;
+    let columns = replaced(alloc, store.columns(), &terms)?;
+    Row::canon(
+        alloc,
+        columns,
+        &both_domains(alloc, store.domains(), given.domains())?,
+    )
 }

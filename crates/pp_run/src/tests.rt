@@ -50,14 +50,35 @@ fn facts_of_atoms_are_generalised(rt: HostRuntime) -> Result<(), Fail> {
 }
 
 #[test]
+fn variables_of_facts_are_fresh(rt: HostRuntime) -> Result<(), Fail> {
+    let rows = [
+        ("p(a,X). ?- p(Y,Z) infers most.", "Y = a\nZ = _0\nyes\n"),
+        ("p(X,X). ?- p(Y,Z) infers most.", "Y = _0\nZ = _0\nyes\n"),
+        ("p(_,_). ?- p(Y,Z) infers most.", "Y = _0\nZ = _1\nyes\n"),
+        (
+            "p(X,Y,X). p(a,b,a). ?- p(U,V,W) infers most.",
+            "U = _0\nV = _1\nW = _0\nyes\n",
+        ),
+        ("p(X,a). p(b,X). ?- p(U,U) infers most.", "U = _0\nyes\n"),
+        ("p(X,X,a). ?- p(U,b,V) infers most.", "U = b\nV = a\nyes\n"),
+    ];
+    for (text, expected) in rows {
+        let (was, bytes) = answer(rt.alloc(), text)?;
+        assert_eq!(rt; was, Status::Yes);
+        assert_eq!(rt; bytes.as_slice(), expected.as_bytes());
+    }
+    Ok(())
+}
+
+#[test]
 fn other_texts_are_not_built_yet(rt: HostRuntime) -> Result<(), Fail> {
     let texts = [
         "",
         "p(1).",
         "p(a). ?- p(X) infers unique.",
-        "p(X). ?- p(X) infers most.",
         "p(a). ?- X = a.",
         "p(a) :- q. ?- p(X) infers most.",
+        "p(X) :- q(X). ?- p(X) infers most.",
         "p(a). % a comment\n ?- p(X) infers most.",
         "plus(a,b,c). ?- p(X) infers most.",
         "p(a). ?- indomain(X) infers most.",

@@ -1,13 +1,13 @@
 -- A set that keeps its keys in order, as a list of names.
-use Rattle.std.proofs.Common.{◌≡◌, ℕ, suc, ◌+◌, Bool, true, false, List, [], ◌∷◌, ◌++◌, length, map, Some, None, refl, ap, sym, ◌∙◌, arith}
+use Rattle.std.proofs.Common.{◌≡◌, ℕ, suc, ◌+◌, Bool, true, false, List, [], ◌∷◌, ◌++◌, length, map, take, get_or, ◌<◌, Some, None, refl, ap, sym, ◌∙◌, arith, subst, append_assoc, append-nil}
 use Rattle.std.specs.Prelude.{cond, ◌||◌, not, nat_eq, nat_lt}
 use Rattle.std.specs.List.{list_any, position, position_or_len}
-use Rattle.pp_algebra.specs.Canon.{has, place, firsts}
+use Rattle.pp_algebra.specs.Canon.{has, place, firsts, Distinct}
 use Rattle.pp_algebra.proofs.Bools.{nat_same, nat_is, left_true, right_true, both_true}
 use Rattle.pp_algebra.proofs.CanonLemmas.{IsSame, nat_eq-IsSame}
-use Rattle.std.proofs.lemmas.List.{map-append}
+use Rattle.std.proofs.lemmas.List.{map-append, take_more}
 use Rattle.pp_term.specs.Texts.{same_text}
-use Rattle.pp_term.proofs.Numbering.{place_taken, place-push}
+use Rattle.pp_term.proofs.Numbering.{place_taken, place-push, firsts-append}
 
 pub same_text-itself : (t : List ℕ) → same_text t t ≡ true
 same_text-itself [] = refl
@@ -64,6 +64,19 @@ module _ {V : Type 0} (same : V → V → Bool) (s : IsSame same) where
         let a : list_any (λ j. same (f k) (f j)) old ≡ false = ap (λ x. list_any (λ j. same x (f j)) old) e ∙ sym h in
         ap (map f) g ∙ ap (λ b. map f (cond b old (old ++ k ∷ []))) a ∙ map-append f old (k ∷ []) ∙ ap (λ x. map f old ++ x ∷ []) e
 
+  found_later : (vs ws : List V) (v x : V) → has same (vs ++ v ∷ ws) x ≡ false → same v x ≡ false
+  found_later [] ws v x h = elim (same v x) as (λ b. (b || has same ws x) ≡ false → b ≡ false) [ true ↦ λ h. h | false ↦ λ h. refl ] h
+  found_later (w ∷ vs) ws v x h = elim (same w x) as (λ b. (b || has same (vs ++ v ∷ ws) x) ≡ false → same v x ≡ false) [ true ↦ λ h. absurd (cc) | false ↦ λ h. found_later vs ws v x h ] h
+
+  new_after : (seen vs : List V) (v : V) → Distinct same (seen ++ v ∷ vs) → has same seen v ≡ false
+  new_after [] vs v d = refl
+  new_after (x ∷ seen) vs v d = rw (turned v x false (found_later seen vs v x d.0), new_after seen vs v d.1) refl
+
+  -- where none stands twice, each one is new
+  pub firsts-distinct : (seen vs : List V) → Distinct same (seen ++ vs) → firsts same seen vs ≡ seen ++ vs
+  firsts-distinct seen [] d = sym (append-nil seen)
+  firsts-distinct seen (v ∷ vs) d = rw (new_after seen vs v d) (firsts-distinct (seen ++ v ∷ []) vs (subst (Distinct same) (sym (append_assoc seen (v ∷ []) vs)) d) ∙ append_assoc seen (v ∷ []) vs)
+
 pub map_same : {K : Type 0} (ks : List K) → map (λ k. k) ks ≡ ks
 map_same [] = refl
 map_same (k ∷ ks) = ap (λ ns. k ∷ ns) (map_same ks)
@@ -92,3 +105,18 @@ firsts_new same vs v h = rw h refl
 
 pub place_new : {V : Type 0} (same : V → V → Bool) (vs : List V) (v : V) → same v v ≡ true → has same vs v ≡ false → place same (vs ++ v ∷ []) v ≡ length vs
 place_new same vs v s h = place-push same vs v s ∙ place_past same vs v h
+
+-- one more key among the first ones
+pub firsts_more :
+    {K V : Type 0} (same : V → V → Bool) (f : K → V) (ks : List K) (i : ℕ) (k : K) (old new : List V) (v : V)
+    → i < length ks
+    → old ≡ firsts same [] (map f (take i ks))
+    → k ≡ get_or ks i k
+    → v ≡ f k
+    → new ≡ firsts same old (v ∷ [])
+    → new ≡ firsts same [] (map f (take (i + 1) ks))
+firsts_more same f ks i k old new v l e h g n =
+    n
+    ∙ ap (λ vs. firsts same vs (v ∷ [])) e
+    ∙ sym (firsts-append same [] (map f (take i ks)) (v ∷ []))
+    ∙ ap (firsts same []) (ap (λ w. map f (take i ks) ++ w ∷ []) (g ∙ ap f h) ∙ sym (map-append f (take i ks) (get_or ks i k ∷ [])) ∙ sym (ap (map f) (take_more ks i k l)))

@@ -1,3 +1,11 @@
-pub mod Lists
-pub mod Numbering
 pub mod Keys
+pub mod Numbering
+pub mod ColumnLists
+pub mod DomainLists
+pub mod OneTerm
+pub mod Stack
+pub mod Next
+pub mod Decide
+pub mod Piece
+pub mod Renaming
+pub mod Substituted

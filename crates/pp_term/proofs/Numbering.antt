@@ -1,13 +1,14 @@
 -- Numbering by first occurrence, one column after another.
-use Rattle.std.proofs.Common.{◌≡◌, ℕ, suc, Bool, true, false, List, [], ◌∷◌, ◌++◌, length, map, refl, ap, sym, ◌∙◌, append_assoc, append-nil, None, subst}
+use Rattle.std.proofs.Common.{◌≡◌, ℕ, zero, suc, ℤ, Option, Bool, true, false, List, [], ◌∷◌, ◌++◌, map, refl, ap, sym, ◌∙◌, append_assoc, append-nil, subst}
+use Rattle.std.proofs.lemmas.List.Elements.{All-nil, All-cons, All-head, All-tail}
 use Rattle.std.specs.Prelude.{cond, ◌||◌, nat_eq}
 use Rattle.pp_algebra.specs.Terms.{Tree, variable, put, put_all, variables, variables_all}
-use Rattle.pp_algebra.specs.Rows.{IsCanonical}
+use Rattle.pp_algebra.specs.Rows.{Domain, IsCanonical, IsRow, IsWide, AreWide, domain_at}
 use Rattle.pp_algebra.specs.Canon.{has, place, firsts, canon}
 use Rattle.pp_algebra.proofs.CanonLemmas.{nat_eq-IsSame, has-all, canon-IsCanonical}
 use Rattle.pp_algebra.proofs.Antisym.{put_all-agree}
-use Rattle.pp_term.specs.Columns.{trees_of, any_domains, free_pattern, free_row}
-use Rattle.pp_term.proofs.Lists.{any_domains-map, put-trees_of, variables-push}
+use Rattle.pp_term.specs.Columns.{trees_of, sets_of, pattern_by, row_by}
+use Rattle.pp_term.proofs.ColumnLists.{put-trees_of, variables-push}
 
 module _ {V : Type 0} (same : V → V → Bool) where
   pub place-front : (vs ws : List V) (v : V) → has same vs v ≡ true → place same (vs ++ ws) v ≡ place same vs v
@@ -66,11 +67,25 @@ columns_push ts out t u old new e f g h =
     put_all-agree (placed new) (placed old) (trees_of ts) (λ v i. ap variable (ap (λ ns. place nat_eq ns v) g ∙ place_stays nat_eq old (variables t) v (ap (λ ns. has nat_eq ns v) e ∙ has-all nat_eq nat_eq-IsSame [] (variables_all (trees_of ts)) v i))) in
     ap (λ us. us ++ u ∷ []) (f ∙ sym (trees_agree (placed new) (placed old) ts a)) ∙ ap (λ x. map (put (placed new)) ts ++ x ∷ []) h ∙ sym (map_push (put (placed new)) ts t)
 
-pub canon_now : (ts out : List (Tree ℕ)) (names : List ℕ) (n : ℕ) → names ≡ names_of ts → out ≡ map (put (placed names)) ts → n ≡ length names → free_row out n ≡ canon nat_eq (free_pattern ts)
-canon_now ts out names n e f l =
-    let c : trees_of out ≡ put_all (placed (names_of ts)) (trees_of ts) = ap trees_of f ∙ sym (put-trees_of (placed names) ts) ∙ ap (λ ns. put_all (placed ns) (trees_of ts)) e in
-    let d : any_domains n ≡ map (λ _. None) (names_of ts) = ap any_domains (l ∙ ap length e) ∙ any_domains-map (names_of ts) in
-    rw (c, d) refl
+wide_at : (ds : List (Option Domain)) (v : ℕ) → AreWide ds → IsWide (domain_at ds v)
+wide_at [] v w = tt
+wide_at (d ∷ ds) zero w = All-head IsWide d ds w
+wide_at (d ∷ ds) (suc v) w = wide_at ds v (All-tail IsWide d ds w)
 
-pub canon_is_canonical : (ts out : List (Tree ℕ)) (names : List ℕ) (n : ℕ) → names ≡ names_of ts → out ≡ map (put (placed names)) ts → n ≡ length names → IsCanonical (free_row out n)
-canon_is_canonical ts out names n e f l = subst IsCanonical (sym (canon_now ts out names n e f l)) (canon-IsCanonical nat_eq nat_eq-IsSame (free_pattern ts))
+are_wide : (ds : List (Option Domain)) (vs : List ℕ) → AreWide ds → AreWide (map (domain_at ds) vs)
+are_wide ds [] w = All-nil IsWide
+are_wide ds (v ∷ vs) w = All-cons IsWide (domain_at ds v) (map (domain_at ds) vs) (wide_at ds v w) (are_wide ds vs w)
+
+-- columns that are numbered, with the domains of their variables
+module _ (ts out : List (Tree ℕ)) (names : List ℕ) (ds es : List (Option (List (ℤ × ℤ)))) (e : names ≡ names_of ts) (f : out ≡ map (put (placed names)) ts) (d : sets_of es ≡ map (domain_at (sets_of ds)) names) where
+  pub canon_now : row_by out es ≡ canon nat_eq (pattern_by ts ds)
+  canon_now =
+      let c : trees_of out ≡ put_all (placed (names_of ts)) (trees_of ts) = ap trees_of f ∙ sym (put-trees_of (placed names) ts) ∙ ap (λ ns. put_all (placed ns) (trees_of ts)) e in
+      let g : sets_of es ≡ map (domain_at (sets_of ds)) (names_of ts) = d ∙ ap (map (domain_at (sets_of ds))) e in
+      rw (c, g) refl
+
+  pub canon_is_row : AreWide (sets_of ds) → IsRow (row_by out es)
+  canon_is_row w = record {
+    canonical = subst IsCanonical (sym canon_now) (canon-IsCanonical nat_eq nat_eq-IsSame (pattern_by ts ds));
+    wide = subst AreWide (sym d) (are_wide (sets_of ds) names w);
+  }

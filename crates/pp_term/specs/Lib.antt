@@ -1,5 +1,8 @@
 pub mod Cells
+pub mod Reading
 pub mod Columns
 pub mod Codes
 pub mod Texts
-pub mod Predicates
+pub mod Meanings
+pub mod WellFormed
+pub mod Substitution

@@ -1,6 +1,6 @@
 //! Names.
-ghost use Rattle.std.specs.Prelude.{◌≡◌, ◌<◌, IfOk, OnErr, length, slice_index_or, [], ◌∷◌};
-ghost use Rattle.pp_algebra.specs.Canon.{firsts, place, Distinct};
+ghost use Rattle.std.specs.Prelude.{◌≡◌, ◌<◌, IfOk, OnErr, MatchOption, IsTrue, false, length, slice_index_or, [], ◌∷◌};
+ghost use Rattle.pp_algebra.specs.Canon.{firsts, has, place, Distinct};
 ghost use Rattle.pp_term.specs.Texts.{same_text};
 
 use indexmap::IndexSet;
@@ -61,11 +61,34 @@ impl Names {
         }
     }
 
+    /// The number of the text; `None` exactly where no name has this text.
+    pub fn find(&self, text: &[u8]) -> Option<u32>
+        ensures { MatchOption result
+            (has same_text self.now text.now ≡ false)
+            (λ n. IsTrue (has same_text self.now text.now) × (n ≡ place same_text self.now text.now)) }
+    {
+        match self.texts.get_index_of(text) {
+            Some(place) => Some(place as u32),
+            None => None,
+        }
+    }
+
     /// The text of a number that was given.
     pub fn text(&self, name: u32) -> &[u8]
         requires { name < length self.now }
         ensures { result.now ≡ slice_index_or self.now name [] }
     {
         self.texts[name as usize].as_slice()
+    }
+
+    /// A copy.
+    pub fn copy(&self) -> Result<Names, AllocError>
+        ensures { IfOk result (λ names. names ≡ self.now) }
+    {
+        let mut copy = Names::new(self.alloc);
+        for text in self.texts.as_slice() {
+            copy.intern(text.as_slice())?;
+        }
+        Ok(copy)
     }
 }

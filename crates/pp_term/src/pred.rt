@@ -1,8 +1,44 @@
-//! Predicates.
+//! Predicates, and what a goal asks.
 
 /// A predicate: the number of its name, and its number of arguments.
 #[derive(Clone, Copy, Debug, PartialEq, Eq)]
 pub struct Pred {
     pub name: u32,
     pub arity: u32,
+}
+
+/// What a goal with arguments calls: a predicate of the text, or a built-in.
+#[derive(Clone, Copy, Debug, PartialEq, Eq)]
+pub enum Shape {
+    User(Pred),
+    Plus,
+    Times,
+    Indomain,
+}
+
+/// A comparison of two integers.
+#[derive(Clone, Copy, Debug, PartialEq, Eq)]
+pub enum Relation {
+    Less,
+    AtMost,
+    Equal,
+    Differ,
+}
+
+/// How the answers of an annotated goal are used.
+#[derive(Clone, Copy, Debug, PartialEq, Eq)]
+pub enum Mode {
+    Most,
+    Unique,
+    Consistent,
+}
+
+/// What the top of a term is at the moment: an integer, a variable with a finite domain, a variable of domain
+/// `any`, or an atom or compound.
+#[derive(Clone, Copy, Debug, PartialEq, Eq)]
+pub enum Given {
+    Int(i64),
+    Ranged,
+    Free,
+    Other,
 }

@@ -1,35 +1,37 @@
 //! Rows.
-ghost use Rattle.std.specs.Prelude.{◌≡◌, ℕ, ◌↔◌, IsTrue, IfOk, nat_eq, length};
-ghost use Rattle.pp_algebra.specs.Rows.{IsRow};
+ghost use Rattle.std.specs.Prelude.{◌≡◌, ◌↔◌, IsTrue, IfOk, nat_eq};
+ghost use Rattle.pp_algebra.specs.Rows.{IsRow, AreWide};
 ghost use Rattle.pp_algebra.specs.Canon.{canon};
-ghost use Rattle.pp_sld.specs.Leaves.{call, variables_from};
-ghost use Rattle.pp_term.specs.Columns.{trees_of, any_domains, free_pattern};
+ghost use Rattle.pp_sld.specs.Leaves.{call};
+ghost use Rattle.pp_term.specs.Columns.{trees_of, sets_of, pattern_by};
 
 use crate::Term;
+use crate::domains::{copy_domains, domains_of, same_domains};
 use indexmap::IndexSet;
+use pp_domain::Domain;
 use std::alloc::{AllocError, Global};
 use std::marker::Model;
 
-/// A row: columns of terms, whose variables are numbered from 0 by first occurrence. So far each variable may
-/// be anything.
+/// A row: columns of terms, whose variables are numbered from 0 by first occurrence, with a domain for each
+/// variable. `None` is the domain `any`; a finite domain has at least two integers.
 #[derive(Debug, Drop)]
 pub struct Row {
     columns: Vec<Term>,
-    variables: u32,
+    domains: Vec<Option<Domain>>,
 }
 
 impl Model for Row {
-    ghost use Rattle.pp_algebra.specs.Rows.{Row as RowValue, IsCanonical};
-    ghost use Rattle.pp_term.specs.Columns.{free_row};
+    ghost use Rattle.pp_algebra.specs.Rows.{Row as RowValue, IsRow};
+    ghost use Rattle.pp_term.specs.Columns.{row_by};
     ghost use Rattle.pp_term.specs.Codes.{row_code};
 
     ghost Value = { RowValue };
 
     ghost coded = { row_code };
 
-    ghost view = { λ s. free_row s.columns.items s.variables };
+    ghost view = { λ s. row_by s.columns.items s.domains.items };
 
-    ghost invariant = { λ s. IsCanonical (free_row s.columns.items s.variables) };
+    ghost invariant = { λ s. IsRow (row_by s.columns.items s.domains.items) };
 }
 
 /// Whether both are the same terms in the same order.
@@ -48,62 +50,65 @@ pub fn same_terms(left: &[Term], right: &[Term]) -> bool
 }
 
 impl Row {
-    /// The row of these columns, whose variables may have any numbers and get new ones.
-    pub fn canon(alloc: Global, columns: Vec<Term>) -> Result<Row, AllocError>
-        ensures { IfOk result (λ r. r ≡ canon nat_eq (free_pattern columns.items)) }
+    /// The row of these columns, whose variables may have any numbers and get new ones. Variable n has the n-th
+    /// of the domains, and `any` where there is none. It is linear in the cells.
+    pub fn canon(
+        alloc: Global,
+        columns: Vec<Term>,
+        domains: &[Option<Domain>],
+    ) -> Result<Row, AllocError>
+        requires wide { AreWide (sets_of domains.now) }
+        ensures { IfOk result (λ r. r ≡ canon nat_eq (pattern_by columns.items domains.now)) }
     {
         let mut names = IndexSet::new(alloc);
         let mut numbered = Vec::with_capacity(alloc, columns.len())?;
         for column in columns {
             numbered.push(column.numbered(&mut names)?)?;
         }
-        let variables = u32::try_from(names.len()).map_err(|_| AllocError)?;
+        let domains = domains_of(alloc, &names, domains)?;
         Ok(Row {
             columns: numbered,
-            variables,
+            domains,
         })
     }
 
     /// The columns.
     pub fn columns(&self) -> &[Term]
         ensures columns { trees_of result.now ≡ self.now.columns }
-        ensures any { self.now.domains ≡ any_domains (length self.now.domains) }
         ensures row { IsRow self.now }
     {
         self.columns.as_slice()
     }
 
-    /// How many variables there are.
-    pub fn variables(&self) -> u32
-        ensures count { result ≡ length self.now.domains }
-        ensures any { self.now.domains ≡ any_domains result }
+    /// The domains, by the numbers of the variables.
+    pub fn domains(&self) -> &[Option<Domain>]
+        ensures domains { sets_of result.now ≡ self.now.domains }
         ensures row { IsRow self.now }
     {
-        self.variables
+        self.domains.as_slice()
     }
 
     /// Whether both are one row.
     pub fn same(&self, other: &Row) -> bool
         ensures { IsTrue result ↔ (self.now ≡ other.now) }
     {
-        if self.variables != other.variables {
-            return false;
-        }
         same_terms(self.columns.as_slice(), other.columns.as_slice())
+            && same_domains(self.domains.as_slice(), other.domains.as_slice())
     }
 
-    /// The row of the distinct variables.
+    /// The row of the distinct variables, with their domains.
     pub fn call(&self) -> Result<Row, AllocError>
         ensures { IfOk result (λ r. r ≡ call self.now) }
     {
         let alloc = *self.columns.allocator();
-        let mut columns = Vec::new(alloc);
-        for variable in 0..self.variables {
-            columns.push(Term::variable(alloc, variable)?)?;
+        let mut columns = Vec::with_capacity(alloc, self.domains.len())?;
+        for variable in 0..self.domains.len() {
+            let number = u32::try_from(variable).map_err(|_| AllocError)?;
+            columns.push(Term::variable(alloc, number)?)?;
         }
         Ok(Row {
             columns,
-            variables: self.variables,
+            domains: copy_domains(alloc, self.domains.as_slice())?,
         })
     }
 
@@ -111,13 +116,14 @@ impl Row {
     pub fn copy(&self) -> Result<Row, AllocError>
         ensures { IfOk result (λ r. r ≡ self.now) }
     {
-        let mut columns = Vec::new(*self.columns.allocator());
+        let alloc = *self.columns.allocator();
+        let mut columns = Vec::with_capacity(alloc, self.columns.len())?;
         for column in &self.columns {
             columns.push(column.copy()?)?;
         }
         Ok(Row {
             columns,
-            variables: self.variables,
+            domains: copy_domains(alloc, self.domains.as_slice())?,
         })
     }
 }

@@ -50,7 +50,7 @@ impl Terms {
     pub fn copy(&self) -> Result<Terms, AllocError>
         ensures { IfOk result (λ ts. ts ≡ self.now) }
     {
-        let mut terms = Vec::new(*self.terms.allocator());
+        let mut terms = Vec::with_capacity(*self.terms.allocator(), self.terms.len())?;
         for term in &self.terms {
             terms.push(term.copy()?)?;
         }

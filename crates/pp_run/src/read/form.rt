@@ -1,20 +1,13 @@
 // Where the facts and the query of a text stand among its tokens.
 ghost use Rattle.std.specs.Prelude.{◌≡◌, ℕ, ◌+◌, ◌≤◌, ◌<◌, ◌^◌, ◌↔◌, map, drop, length, MatchOption, IsTrue};
-ghost use Rattle.pp_language.specs.FirstForm.{is_name_kind};
-ghost use Rattle.pp_run.specs.ReadWords.{AreTokens, argument_kinds, argument_count, arity_of, words_of, kinds_of, width, HasKindAt, HasNoSaid, IsSaidAt, HasNoFact, IsFactAt, HasNoGoal, IsGoalAt, most_words};
+ghost use Rattle.pp_language.specs.FirstForm.{is_name_kind, is_argument_kind};
+ghost use Rattle.pp_run.specs.ReadWords.{AreTokens, argument_count, arity_of, words_of, kinds_of, width, HasKindAt, HasNoSaid, IsSaidAt, HasNoFact, IsFactAt, HasNoGoal, IsGoalAt, most_words};
 
 use super::texts::{is_built_in, is_same, text_of};
 use pp_language::{Kind, Token};
 
 /// The greatest number of arguments.
 const ARGUMENT_LIMIT: usize = 255;
-
-/// What an atom with its arguments is in a text.
-#[derive(Clone, Copy, Debug, PartialEq, Eq)]
-pub(crate) enum Role {
-    Fact,
-    Goal,
-}
 
 /// Where an atom with its arguments stands: the place of its name among the tokens, and how many arguments it has.
 #[derive(Clone, Copy, Debug, PartialEq, Eq)]
@@ -37,32 +30,27 @@ impl Place {
     }
 }
 
-impl Role {
-    /// Whether an argument may be of this kind.
-    fn allows(self, kind: Kind) -> bool
-        ensures { result ≡ argument_kinds self kind }
-    {
-        match self {
-            Role::Fact => kind == Kind::Atom,
-            Role::Goal => kind == Kind::Atom || kind == Kind::Variable,
-        }
-    }
-}
-
 fn is_name(kind: Kind) -> bool
     ensures { result ≡ is_name_kind kind }
 {
     kind == Kind::Atom || kind == Kind::Quoted
 }
 
+/// Whether an argument may be of this kind.
+fn is_argument(kind: Kind) -> bool
+    ensures { result ≡ is_argument_kind kind }
+{
+    kind == Kind::Atom || kind == Kind::Variable
+}
+
 /// How many arguments stand from this place on, up to a closing parenthesis.
-fn arguments(tokens: &[Token], first: usize, role: Role) -> Option<usize>
+fn arguments(tokens: &[Token], first: usize) -> Option<usize>
     requires { first ≤ length tokens.now }
-    ensures { result ≡ argument_count (argument_kinds role) (kinds_of (drop first tokens.now)) }
+    ensures { result ≡ argument_count is_argument_kind (kinds_of (drop first tokens.now)) }
 {
     let mut at = first;
     let mut count = 0;
-    while at + 1 < tokens.len() && role.allows(tokens[at].kind) {
+    while at + 1 < tokens.len() && is_argument(tokens[at].kind) {
         count += 1;
         match tokens[at + 1].kind {
             Kind::Comma => at += 2,
@@ -74,26 +62,26 @@ fn arguments(tokens: &[Token], first: usize, role: Role) -> Option<usize>
 }
 
 /// How many arguments the atom at this place has.
-fn arity(tokens: &[Token], at: usize, role: Role) -> Option<usize>
-    ensures { result ≡ arity_of (argument_kinds role) (kinds_of (drop at tokens.now)) }
+fn arity(tokens: &[Token], at: usize) -> Option<usize>
+    ensures { result ≡ arity_of is_argument_kind (kinds_of (drop at tokens.now)) }
 {
     if !is_name(tokens.get(at)?.kind) {
         return None;
     }
     match tokens.get(at + 1) {
-        Some(next) if next.kind == Kind::Left => arguments(tokens, at + 2, role),
+        Some(next) if next.kind == Kind::Left => arguments(tokens, at + 2),
         _ => Some(0),
     }
 }
 
 /// The atom with arguments that stands at this place.
-fn said(text: &[u8], tokens: &[Token], at: usize, role: Role) -> Option<Place>
+fn said(text: &[u8], tokens: &[Token], at: usize) -> Option<Place>
     requires { AreTokens text.now tokens.now }
     ensures { MatchOption result
-        (HasNoSaid (argument_kinds role) (drop at (words_of text.now tokens.now)))
-        (λ p. (p.name ≡ at) × IsSaidAt (argument_kinds role) (words_of text.now tokens.now) p) }
+        (HasNoSaid is_argument_kind (drop at (words_of text.now tokens.now)))
+        (λ p. (p.name ≡ at) × IsSaidAt is_argument_kind (words_of text.now tokens.now) p) }
 {
-    let arity = arity(tokens, at, role)?;
+    let arity = arity(tokens, at)?;
     let name = text_of(text, tokens[at]);
     if arity > ARGUMENT_LIMIT || is_built_in(name, arity) {
         return None;
@@ -118,7 +106,7 @@ pub(super) fn fact(text: &[u8], tokens: &[Token], at: usize) -> Option<Place>
         (HasNoFact (drop at (words_of text.now tokens.now)))
         (λ p. (p.name ≡ at) × IsFactAt (words_of text.now tokens.now) p) }
 {
-    let place = said(text, tokens, at, Role::Fact)?;
+    let place = said(text, tokens, at)?;
     if !stands_at(tokens, place.end(), Kind::Point) {
         return None;
     }
@@ -153,7 +141,7 @@ pub(super) fn goal(text: &[u8], tokens: &[Token], at: usize) -> Option<Place>
     if !stands_at(tokens, at, Kind::Ask) {
         return None;
     }
-    let place = said(text, tokens, at + 1, Role::Goal)?;
+    let place = said(text, tokens, at + 1)?;
     if !ends_with_most(text, tokens, place.end()) {
         return None;
     }

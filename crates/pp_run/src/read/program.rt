@@ -2,9 +2,10 @@
 ghost use Rattle.std.specs.Prelude.{◌≡◌, ℕ, ◌+◌, ◌<◌, ◌≤◌, IfOk, OnOk, IfSome, MatchOption, length, map, [], ◌∷◌, List, IsTrue};
 ghost use Rattle.pp_algebra.specs.Canon.{firsts, place as place_in};
 ghost use Rattle.pp_language.specs.Texts.{Text, same_text};
-ghost use Rattle.pp_language.specs.FirstForm.{said_words, is_atom_kind, is_argument_kind};
+ghost use Rattle.pp_language.specs.FirstForm.{said_words, is_argument_kind};
 ghost use Rattle.pp_language.specs.FirstMeaning.{names_in, fact_of, query_of};
 ghost use Rattle.pp_resolve.specs.Facts.{IsFact, clause_of};
+ghost use Rattle.pp_term.specs.Columns.{trees_of};
 ghost use Rattle.pp_run.specs.ReadWords.{AreTokens, words_of, said_at, IsSaidAt};
 ghost use Rattle.pp_run.specs.ReadTerms.{name_of, new_named, named_all};
 ghost use Rattle.pp_run.specs.ReadPrograms.{query_by, IsRunnableQuery, IsRead};
@@ -12,9 +13,10 @@ ghost use Rattle.pp_run.specs.ReadPrograms.{query_by, IsRunnableQuery, IsRead};
 use super::form::{self, Place, stands_at};
 use super::terms::{Variables, arguments, intern};
 use super::texts::{is_same, text_of};
+use crate::store::variable_count;
 use pp_language::{Kind, Token};
 use pp_resolve::Fact;
-use pp_term::{Names, Pred, Term, Terms};
+use pp_term::{Names, Pred, Row, Term, Terms};
 use std::alloc::{AllocError, Global};
 
 /// The greatest number of facts.
@@ -60,7 +62,19 @@ fn pred_at(
     })
 }
 
-/// The fact at this place.
+/// Copies of a row's columns.
+fn columns_of(alloc: Global, row: &Row) -> Result<Vec<Term>, AllocError>
+    ensures { IfOk result (λ ts. trees_of ts.items ≡ row.now.columns) }
+{
+    let columns = row.columns();
+    let mut copies = Vec::with_capacity(alloc, columns.len())?;
+    for column in columns {
+        copies.push(column.copy()?)?;
+    }
+    Ok(copies)
+}
+
+/// The fact at this place. Its variables are numbered by first occurrence.
 fn fact_at(
     alloc: Global,
     names: &mut Names,
@@ -69,21 +83,25 @@ fn fact_at(
     place: Place,
 ) -> Result<Fact, AllocError>
     requires tokens { AreTokens text.now tokens.now }
-    requires said { IsSaidAt is_atom_kind (words_of text.now tokens.now) place }
+    requires said { IsSaidAt is_argument_kind (words_of text.now tokens.now) place }
     ensures names { OnOk result (names.new ≡ firsts same_text names.old (names_in (said_words (said_at (words_of text.now tokens.now) place)))) }
     ensures fact { IfOk result (λ f. (more : List Text) → clause_of f ≡ fact_of (firsts same_text names.new more) (said_at (words_of text.now tokens.now) place)) }
     ensures is_fact { IfOk result IsFact }
 {
     let pred = pred_at(alloc, names, text, tokens, place)?;
+    // Each `_` has a number behind those of the named variables, until all are numbered anew.
     let mut variables = Variables {
         named: Names::new(alloc),
-        next: 0,
+        next: place.arity as u32,
     };
-    let head = arguments(alloc, names, &mut variables, text, tokens, place)?;
+    let terms = arguments(alloc, names, &mut variables, text, tokens, place)?;
+    let head = Row::canon(alloc, terms, &[])?;
+    let vars = variable_count(&head)?;
+    let columns = columns_of(alloc, &head)?;
     Ok(Fact {
         pred,
-        head: Terms::from_vec(head),
-        vars: 0,
+        vars,
+        head: Terms::from_vec(columns),
     })
 }
 

@@ -2,7 +2,6 @@
 ghost use Rattle.std.specs.Prelude.{◌≡◌, ℕ, All, IfOk, [], ◌∷◌, length};
 ghost use Rattle.pp_algebra.specs.Terms.{variable};
 ghost use Rattle.pp_resolve.specs.Facts.{IsFact};
-ghost use Rattle.pp_run.specs.RunStores.{AreBelow};
 
 use super::{End, Outcome, run};
 use pp_resolve::Fact;
@@ -70,7 +69,7 @@ fn is_row(row: &Row, cells: &[Cell]) -> bool {
         return false;
     }
     for (i, column) in columns.iter().enumerate() {
-        if column.top() != cells[i] {
+        if column.cells() != [cells[i]].as_slice() {
             return false;
         }
     }

@@ -1,4 +1,4 @@
-use Rattle.std.proofs.Common.{add-one, sym, ap, ◌∙◌}
+use Rattle.std.proofs.Common.{add-one}
 use Rattle.pp_run.proofs.NamedLines.{named_turn, unnamed_turn}
 use Rattle.pp_run.proofs.print.push_all_named.Goals as goal
 use Rattle.pp_run.proofs.print.push_all_named.Goals.{then-i-columns+in_ok-push_named, else-i-columns}

@@ -2,8 +2,8 @@ use Rattle.std.proofs.Common.{◌≡◌, arith, add-one, subst}
 use Rattle.std.proofs.lemmas.Result.{IfOk-weaker}
 use Rattle.pp_sld.specs.Leaves.{variables_from}
 use Rattle.pp_term.specs.Columns.{trees_of}
-use Rattle.pp_term.proofs.Lists.{from_push}
-use Rattle.pp_run.proofs.FreeRows.{opened}
+use Rattle.pp_term.proofs.ColumnLists.{from_push}
+use Rattle.pp_run.proofs.StoreRows.{opened}
 use Rattle.pp_run.proofs.store.opening.Goals as goal
 
 pub loop-variable-preserved : goal.loop-variable-preserved

@@ -1,6 +1,4 @@
-use Rattle.std.proofs.Common.{subst, sym}
-use Rattle.pp_language.specs.FirstMeaning.{AreGapsWhite}
-use Rattle.pp_lex.specs.AllTokens.{AreAllTokens}
+use Rattle.std.proofs.Common.{sym}
 use Rattle.pp_run.proofs.OneWord.{not_so}
 use Rattle.pp_run.proofs.ReadBytes.{no_form_at_bad, no_form_past_gaps, reads_result}
 use Rattle.pp_run.proofs.read.first.read_first.Goals as goal

@@ -1,4 +1,4 @@
-use Rattle.std.proofs.Common.{◌+◌, ◌∙◌, arith}
+use Rattle.std.proofs.Common.{◌+◌, arith}
 use Rattle.pp_run.proofs.OneWord.{not_so}
 use Rattle.pp_run.proofs.ReadPlaces.{here, here_ordered}
 use Rattle.pp_run.proofs.ReadFacts.{wrong_length, wrong_first, wrong_second, wrong_third, right_kinds}

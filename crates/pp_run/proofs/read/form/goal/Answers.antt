@@ -1,4 +1,3 @@
-use Rattle.std.proofs.Common.{◌+◌}
 use Rattle.pp_run.specs.ReadWords.{words_of}
 use Rattle.pp_run.proofs.OneWord.{not_so}
 use Rattle.pp_run.proofs.ReadPlaces.{if_none}

@@ -1,9 +1,8 @@
-use Rattle.std.proofs.Common.{◌+◌, ◌*◌, refl, arith}
-use Rattle.pp_run.specs.ReadWords.{words_of}
+use Rattle.std.proofs.Common.{◌+◌, ◌*◌}
 use Rattle.pp_language.specs.FirstForm.{is_argument_kind}
 use Rattle.pp_run.proofs.ReadPlaces.{here, here_ordered}
 use Rattle.pp_run.proofs.ReadTexts.{place_fits}
-use Rattle.pp_run.proofs.ReadMeaning.{said_within, named_next, named_whole}
+use Rattle.pp_run.proofs.ReadMeaning.{said_within, named_next}
 use Rattle.pp_run.proofs.read.program.named_at.Goals as goal
 
 pub text_of-requires-clause-ordered : goal.text_of-requires-clause-ordered

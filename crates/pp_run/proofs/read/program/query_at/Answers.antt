@@ -1,8 +1,9 @@
-use Rattle.std.proofs.Common.{sym, ap, subst, ◌∙◌, arith}
+use Rattle.std.proofs.Common.{sym, ◌∙◌, arith}
 use Rattle.pp_language.specs.FirstForm.{is_argument_kind}
 use Rattle.pp_run.specs.ReadWords.{words_of, said_at}
 use Rattle.pp_run.proofs.ReadSaid.{said_parts}
-use Rattle.pp_run.proofs.ReadMeaning.{said_names, make_predicate}
+use Rattle.pp_run.proofs.ReadMeaning.{said_names}
+use Rattle.pp_run.proofs.ReadHeads.{become_flat}
 use Rattle.pp_run.proofs.ReadQueries.{named_again, arity_few, named_few, query_means, query_arity, query_below}
 use Rattle.pp_run.proofs.read.program.query_at.Goals as goal
 
@@ -36,4 +37,5 @@ returns-clause-runnable c =
     record {
       arity = query_arity s _ _ _ _ _ _ _ _ _ _ _ c.in_ok-pred.ensures.names c.in_ok-pred.ensures.name c.in_ok-arguments.ensures.names (c.in_ok-pred.ensures.arity ∙ sym c.requires.said.count) c.in_ok-named.ensures c.in_ok-arguments.ensures.named c.in_ok-named-2.ensures c.len-next.ensures.len c.in_ok-arguments.ensures.next c.in_ok-arguments.ensures.terms;
       below = query_below s _ _ _ _ _ _ _ _ _ _ _ c.in_ok-pred.ensures.names c.in_ok-pred.ensures.name c.in_ok-arguments.ensures.names (c.in_ok-pred.ensures.arity ∙ sym c.requires.said.count) c.in_ok-named.ensures c.in_ok-arguments.ensures.named c.in_ok-named-2.ensures c.len-next.ensures.len c.in_ok-arguments.ensures.next c.in_ok-arguments.ensures.terms;
+      flat = become_flat _ _ _ s.arguments _ c.in_ok-arguments.ensures.terms;
     }

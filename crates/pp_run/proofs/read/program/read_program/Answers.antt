@@ -1,4 +1,4 @@
-use Rattle.std.proofs.Common.{◌≡◌, ◌+◌, length, sym, ap, ◌∙◌, arith}
+use Rattle.std.proofs.Common.{◌≡◌, ◌+◌, length, ap, arith}
 use Rattle.pp_run.specs.ReadWords.{words_of}
 use Rattle.pp_run.proofs.OneWord.{not_so}
 use Rattle.pp_run.proofs.ReadWhole.{form, one_more, too_many, no_fact, no_goal, whole_words, whole_first, whole_writes}

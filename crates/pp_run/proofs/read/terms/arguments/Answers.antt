@@ -1,7 +1,7 @@
-use Rattle.std.proofs.Common.{◌+◌, ◌*◌, refl, arith}
+use Rattle.std.proofs.Common.{◌+◌, ◌*◌, arith}
 use Rattle.pp_run.specs.ReadWords.{words_of}
 use Rattle.pp_run.proofs.ReadPlaces.{here, here_ordered}
-use Rattle.pp_run.proofs.ReadTexts.{read_none, read_next, read_whole, place_fits, arguments-length}
+use Rattle.pp_run.proofs.ReadTexts.{read_next, read_whole, place_fits, arguments-length}
 use Rattle.pp_run.proofs.read.terms.arguments.Goals as goal
 
 pub text_of-written-requires-clause-ordered : goal.text_of-written-requires-clause-ordered

@@ -1,8 +1,8 @@
-use Rattle.std.proofs.Common.{refl, sym, ap, ◌∙◌}
+use Rattle.std.proofs.Common.{sym, ap, ◌∙◌}
 use Rattle.std.specs.Prelude.{◌||◌, codes}
 use Rattle.pp_language.specs.Texts.{same_text}
 use Rattle.pp_language.specs.FirstForm.{is_built_in, atom_of}
-use Rattle.pp_run.proofs.ReadNames.{one_argument, three_arguments, no_built_in}
+use Rattle.pp_run.proofs.ReadNames.{one_argument, three_arguments}
 use Rattle.pp_run.proofs.read.texts.is_built_in.Goals as goal
 
 pub returns-in-1 : goal.returns-in-1

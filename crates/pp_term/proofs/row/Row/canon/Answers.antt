@@ -1,10 +1,10 @@
-use Rattle.std.proofs.Common.{◌≡◌, length, ap, sym, ◌∙◌, rules}
+use Rattle.std.proofs.Common.{◌≡◌, ap, sym, ◌∙◌}
 use Rattle.std.proofs.lemmas.Iterator.Adapters.{YieldsList-from_vec}
 use Rattle.std.proofs.lemmas.Iterator.Consumers.{YieldsList-end}
 use Rattle.std.specs.Prelude.{nat_eq}
 use Rattle.pp_algebra.specs.Canon.{canon}
-use Rattle.pp_term.specs.Columns.{free_pattern}
-use Rattle.pp_term.proofs.Numbering.{names_push, columns_push, canon_now, canon_is_canonical}
+use Rattle.pp_term.specs.Columns.{pattern_by}
+use Rattle.pp_term.proofs.Numbering.{names_push, columns_push, canon_now, canon_is_row}
 use Rattle.pp_term.proofs.Keys.{map_same}
 use Rattle.pp_term.proofs.row.Row.canon.Goals as goal
 
@@ -17,12 +17,12 @@ loop-column-preserved c =
 
 pub invariant_of-result : goal.invariant_of-result
 invariant_of-result c =
-    let e : c.in_ok-variables.variables ≡ length c.loop-column.names.keys = search rules in
-    canon_is_canonical c.loop-column.yielded c.loop-column.numbered.items c.loop-column.names.keys c.in_ok-variables.variables c.loop-column.invariant.names c.loop-column.invariant.columns e
+    let i = c.loop-column.invariant in
+    canon_is_row c.loop-column.yielded c.loop-column.numbered.items c.loop-column.names.keys c.args.domains.now c.in_ok-domains.domains.items i.names i.columns c.in_ok-domains.ensures c.requires.wide
 
 pub returns : goal.returns
 returns c =
-    let e : c.in_ok-variables.variables ≡ length c.loop-column.names.keys = search rules in
+    let i = c.loop-column.invariant in
     let all = YieldsList-end (YieldsList-from_vec {s = c.into_iter-column-iterator.result} c.args.columns.items (cc) (cc)) c.loop-column.yielded c.loop-column.column-iterator c.loop-column.yielded_by c.next.result c.next.new.self c.in-None.is c.next.ensures.steps in
     let y : c.loop-column.yielded ≡ c.args.columns.items = sym (map_same c.loop-column.yielded) ∙ all.0 in
-    canon_now c.loop-column.yielded c.loop-column.numbered.items c.loop-column.names.keys c.in_ok-variables.variables c.loop-column.invariant.names c.loop-column.invariant.columns e ∙ ap (λ ts. canon nat_eq (free_pattern ts)) y
+    canon_now c.loop-column.yielded c.loop-column.numbered.items c.loop-column.names.keys c.args.domains.now c.in_ok-domains.domains.items i.names i.columns c.in_ok-domains.ensures ∙ ap (λ ts. canon nat_eq (pattern_by ts c.args.domains.now)) y

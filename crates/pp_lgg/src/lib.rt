@@ -1,0 +1,11 @@
+//! What two rows have in common: their least general generalisation.
+#![tactic(auto)]
+
+mod domains;
+mod pair;
+mod rows;
+#[cfg(test)]
+mod tests;
+mod walk;
+
+pub use rows::join;
