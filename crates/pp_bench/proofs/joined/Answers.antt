@@ -1,0 +1,5 @@
+use Rattle.pp_lgg.proofs.Columns.{same_width}
+use Rattle.pp_bench.proofs.joined.Goals as goal
+
+pub join-requires : goal.join-requires
+join-requires c = record { same_width = same_width c.columns.result.now c.columns-2.result.now c.args.left.now.columns c.args.right.now.columns c.columns.ensures.columns c.columns-2.ensures.columns c.if-columns.true }

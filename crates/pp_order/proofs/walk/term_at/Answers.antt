@@ -1,0 +1,11 @@
+use Rattle.std.proofs.Common.{pos}
+use Rattle.pp_term.specs.declared.cell.Cell.TheVariants.{Int}
+use Rattle.pp_order.proofs.Steps.{one_piece, nothing_left}
+use Rattle.pp_order.proofs.Taking.{past_cell, before_cell, no_cell}
+use Rattle.pp_order.proofs.walk.term_at.Goals as goal
+
+pub returns-clause-whole : goal.returns-clause-whole
+returns-clause-whole c = (one_piece c.args.cells.now c.args.start c.end_of.result (Int (pos 0)) c.requires.whole c.requires.within c.end_of.ensures.ends c.end_of.ensures.later c.end_of.ensures.within).0
+
+pub returns-clause-term : goal.returns-clause-term
+returns-clause-term c = (one_piece c.args.cells.now c.args.start c.end_of.result (Int (pos 0)) c.requires.whole c.requires.within c.end_of.ensures.ends c.end_of.ensures.later c.end_of.ensures.within).1
