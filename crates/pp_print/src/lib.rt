@@ -1,0 +1,17 @@
+//! Terms, domains, rows and stores as text.
+#![tactic(auto)]
+
+mod atoms;
+mod domains;
+mod numbers;
+mod occurring;
+mod rows;
+mod stores;
+mod terms;
+#[cfg(test)]
+mod tests;
+
+pub use domains::domain_text;
+pub use rows::row_text;
+pub use stores::store_text;
+pub use terms::term_text;
