@@ -1,11 +1,16 @@
-//! Work on rows to be timed: cover tests of four columns, or the join of two rows of many cells. `bench/rows.sh` takes the time.
+//! Work to be timed: cover tests of four columns and the join of two rows of many cells (`bench/rows.sh`); two long
+//! lists that unify, two nested terms that do, and binds and undos of one variable (`bench/bindings.sh`).
 #![tactic(auto)]
 
+ghost use Rattle.std.specs.Prelude.{◌↔◌, All, IsTrue};
 ghost use Rattle.pp_algebra.specs.Terms.{count};
+ghost use Rattle.pp_unify.specs.States.{IsLonger};
+ghost use Rattle.pp_unify.specs.Tops.{IsThere};
 
 use pp_lgg::join;
 use pp_order::covers;
 use pp_term::{Cell, Row, Term};
+use pp_unify::Bindings;
 use std::alloc::{AllocError, Global};
 use std::{env, io};
 
@@ -15,6 +20,12 @@ const ELEMENTS: u32 = 50_000;
 /// How many cover tests are made.
 const TESTS: u32 = 1_000_000;
 
+/// How many elements the lists have that unify, and how deep the nested terms are.
+const LONG: u32 = 100_000;
+
+/// How often a variable is bound and gone back to.
+const BINDS: u32 = 1_000_000;
+
 fn main(rt: HostRuntime) -> io::Result<()> {
     let words: Vec<String> = env::args(&rt)?.skip(1).collect(rt.alloc())?;
     let tests = if asks(&words, "covers") { TESTS } else { 1 };
@@ -23,6 +34,15 @@ fn main(rt: HostRuntime) -> io::Result<()> {
     let cells = joined_cells(rt.alloc(), elements)?;
     println!(rt; "{tests} tests: {is_covered}")?;
     println!(rt; "{elements} elements: {cells} cells")?;
+    let long = if asks(&words, "lists") { LONG } else { 1 };
+    let deep = if asks(&words, "nests") { LONG } else { 1 };
+    let times = if asks(&words, "binds") { BINDS } else { 1 };
+    let is_one = lists_unify(rt.alloc(), long)?;
+    let is_nested = nests_unify(rt.alloc(), deep)?;
+    let is_bound = binds_always(rt.alloc(), times)?;
+    println!(rt; "{long} elements: {is_one}")?;
+    println!(rt; "{deep} nested: {is_nested}")?;
+    println!(rt; "{times} binds: {is_bound}")?;
     Ok(())
 }
 
@@ -108,4 +128,83 @@ fn joined(alloc: Global, left: &Row, right: &Row) -> Result<Row, AllocError> {
     } else {
         left.copy()
     }
+}
+
+/// Whether the cell's variable is there.
+fn is_there(cell: Cell, count: usize) -> bool
+    ensures { IsTrue result ↔ IsThere 0 count cell }
+{
+    match cell {
+        Cell::Var(variable) => (variable as usize) < count,
+        _ => true,
+    }
+}
+
+fn all_there(cells: &[Cell], count: usize) -> bool
+    ensures { IsTrue result ↔ All (IsThere 0 count) cells.now }
+{
+    cells.iter().all(|cell| is_there(*cell, count))
+}
+
+/// Whether two terms are made equal; those of variables that aren't there are not.
+fn unified(bindings: &mut Bindings, left: &Term, right: &Term) -> Result<bool, AllocError>
+    ensures { IsLonger bindings.old bindings.new }
+{
+    let count = bindings.len();
+    if all_there(left.cells(), count) && all_there(right.cells(), count) {
+        bindings.unify(left, right)
+    } else {
+        Ok(false)
+    }
+}
+
+/// Whether a list of integers and a list of as many variables unify.
+fn lists_unify(alloc: Global, elements: u32) -> Result<bool, AllocError> {
+    let mut bindings = Bindings::new(alloc);
+    let mut cells = Vec::new(alloc);
+    for _ in 0..elements {
+        cells.push(Cell::Compound(3, 2))?;
+        cells.push(Cell::Var(bindings.add(None)?))?;
+    }
+    cells.push(Cell::Atom(4))?;
+    let open = Term::from_cells(cells).ok_or(AllocError)?;
+    let closed = Term::from_cells(list(alloc, 0, elements)?).ok_or(AllocError)?;
+    unified(&mut bindings, &open, &closed)
+}
+
+/// Terms of two arguments, each the first argument of the one around it, around this cell.
+fn nest(alloc: Global, depth: u32, inner: Cell) -> Result<Vec<Cell>, AllocError> {
+    let mut cells = Vec::new(alloc);
+    for _ in 0..depth {
+        cells.push(Cell::Compound(3, 2))?;
+    }
+    cells.push(inner)?;
+    for _ in 0..depth {
+        cells.push(Cell::Atom(4))?;
+    }
+    Ok(cells)
+}
+
+/// Whether a variable and two nested terms unify.
+fn nests_unify(alloc: Global, depth: u32) -> Result<bool, AllocError> {
+    let mut bindings = Bindings::new(alloc);
+    let inner = bindings.add(None)?;
+    let outer = Term::variable(alloc, bindings.add(None)?)?;
+    let open = Term::from_cells(nest(alloc, depth, Cell::Var(inner))?).ok_or(AllocError)?;
+    let closed = Term::from_cells(nest(alloc, depth, Cell::Atom(5))?).ok_or(AllocError)?;
+    Ok(unified(&mut bindings, &outer, &open)? && unified(&mut bindings, &outer, &closed)?)
+}
+
+/// Whether a variable is bound to an atom, as often as is told.
+fn binds_always(alloc: Global, times: u32) -> Result<bool, AllocError> {
+    let mut bindings = Bindings::new(alloc);
+    let variable = Term::variable(alloc, bindings.add(None)?)?;
+    let atom = Term::atom(alloc, 1)?;
+    let mark = bindings.mark();
+    let mut always = true;
+    for _ in 0..times {
+        always = unified(&mut bindings, &variable, &atom)? && always;
+        bindings.undo(mark);
+    }
+    Ok(always)
 }

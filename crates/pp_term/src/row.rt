@@ -3,7 +3,7 @@ ghost use Rattle.std.specs.Prelude.{◌≡◌, ◌↔◌, IsTrue, IfOk, nat_eq};
 ghost use Rattle.pp_algebra.specs.Rows.{IsRow, AreWide};
 ghost use Rattle.pp_algebra.specs.Canon.{canon};
 ghost use Rattle.pp_sld.specs.Leaves.{call};
-ghost use Rattle.pp_term.specs.Columns.{trees_of, sets_of, pattern_by};
+ghost use Rattle.pp_term.specs.Columns.{trees_of, sets_of, pattern_by, row_by};
 
 use crate::Term;
 use crate::domains::{copy_domains, domains_of, same_domains};
@@ -70,6 +70,14 @@ impl Row {
             columns: numbered,
             domains,
         })
+    }
+
+    /// The row of columns whose variables are numbered by first occurrence already, with their domains.
+    pub fn from_numbered(columns: Vec<Term>, domains: Vec<Option<Domain>>) -> Row
+        requires row { IsRow (row_by columns.items domains.items) }
+        ensures { result ≡ row_by columns.items domains.items }
+    {
+        Row { columns, domains }
     }
 
     /// The columns.

@@ -173,7 +173,7 @@ impl Term {
     }
 
     /// The term with its variables numbered by their places in `names`, which takes in those that are new.
-    pub(crate) fn numbered(self, names: &mut IndexSet<u32>) -> Result<Term, AllocError>
+    pub fn numbered(self, names: &mut IndexSet<u32>) -> Result<Term, AllocError>
         ensures names { IfOk result (λ _. names.new.keys ≡ firsts nat_eq names.old.keys (variables self)) }
         ensures term { IfOk result (λ t. t ≡ put (λ v. variable (place nat_eq names.new.keys v)) self) }
     {

@@ -7,6 +7,7 @@ use crate::{
     Cell, Clause, Goal, Goals, Item, Items, Mode, Names, Numbers, Pred, Query, Row, Shape, Term,
     Terms,
 };
+use indexmap::IndexSet;
 use pp_domain::Domain;
 use std::alloc::Global;
 use std::test::Fail;
@@ -244,5 +245,26 @@ fn a_text_is_found_by_its_number(rt: HostRuntime) -> Result<(), Fail> {
     names.intern(b"a")?;
     assert_eq!(rt; names.find(b"a"), Some(1));
     assert_eq!(rt; names.find(b"b"), None);
+    Ok(())
+}
+
+#[test]
+fn variables_are_numbered_by_their_places(rt: HostRuntime) -> Result<(), Fail> {
+    let mut names = IndexSet::new(rt.alloc());
+    names.insert(9)?;
+    let pair = term(
+        rt.alloc(),
+        &[Cell::Compound(1, 2), Cell::Var(4), Cell::Var(9)],
+    )?;
+    let numbered = pair.numbered(&mut names)?;
+    let wanted = [Cell::Compound(1, 2), Cell::Var(1), Cell::Var(0)];
+    assert_eq!(rt; numbered.cells(), wanted.as_slice());
+    Ok(())
+}
+
+#[test]
+fn numbered_columns_are_a_row(rt: HostRuntime) -> Result<(), Fail> {
+    let row = Row::from_numbered(Vec::new(rt.alloc()), Vec::new(rt.alloc()));
+    assert_eq!(rt; row.columns().len(), 0);
     Ok(())
 }

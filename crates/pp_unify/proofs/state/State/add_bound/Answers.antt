@@ -1,0 +1,36 @@
+use Rattle.std.proofs.Common.{None, sym, subst}
+use Rattle.pp_unify.specs.Stores.{store_of}
+use Rattle.pp_unify.specs.Outcomes.{IsFree}
+use Rattle.pp_unify.proofs.Keeping.{kept_through}
+use Rattle.pp_unify.proofs.AddedBound.{added_free, added_binding, bound_later, added_as}
+use Rattle.pp_unify.proofs.state.State.add_bound.Goals as goal
+
+pub bind-requires : goal.bind-requires
+bind-requires c = record { free = subst (λ x. IsFree (store_of c.add_slot.new.self) x None) (sym c.in_ok-number.ensures.number) (added_free c.args.self.now c.add_slot.new.self c.in_ok-number.ensures.added) }
+
+pub returns-clause-good : goal.returns-clause-good
+returns-clause-good c =
+    let old = c.args.self.now in
+    let mid = c.add_slot.new.self in
+    let new = c.bind.new.self in
+    let a = c.in_ok-number.ensures.added in
+    let b = added_binding old mid new c.in_ok-number.number c.args.value c.in_ok-number.ensures.number c.add_slot.ensures.good a c.in_ok-bind.ensures.done in
+    (bound_later old mid new c.args.value c.requires.good c.requires.value a b).good
+
+pub returns-clause-kept : goal.returns-clause-kept
+returns-clause-kept c =
+    let old = c.args.self.now in
+    let mid = c.add_slot.new.self in
+    let new = c.bind.new.self in
+    let a = c.in_ok-number.ensures.added in
+    let b = added_binding old mid new c.in_ok-number.number c.args.value c.in_ok-number.ensures.number c.add_slot.ensures.good a c.in_ok-bind.ensures.done in
+    kept_through old mid new c.add_slot.ensures.kept (bound_later old mid new c.args.value c.requires.good c.requires.value a b).kept
+
+pub returns-clause-added : goal.returns-clause-added
+returns-clause-added c =
+    let old = c.args.self.now in
+    let mid = c.add_slot.new.self in
+    let new = c.bind.new.self in
+    let a = c.in_ok-number.ensures.added in
+    let b = added_binding old mid new c.in_ok-number.number c.args.value c.in_ok-number.ensures.number c.add_slot.ensures.good a c.in_ok-bind.ensures.done in
+    added_as old mid new c.args.value c.requires.good c.requires.value a b

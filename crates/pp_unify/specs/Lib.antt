@@ -1,0 +1,10 @@
+pub mod Values
+pub mod Stores
+pub mod Agreement
+pub mod Soundness
+pub mod Spans
+pub mod Outcomes
+pub mod States
+pub mod Writing
+pub mod Tops
+pub mod Laws

@@ -1,0 +1,208 @@
+//! Bindings, as a caller sees them.
+ghost use Rattle.std.specs.Prelude.{◌≡◌, suc, ◌<◌, [], ◌∷◌, length, take, IfOk, All, option_map};
+ghost use Rattle.pp_algebra.specs.Rows.{IsWide};
+ghost use Rattle.pp_algebra.specs.Solve.{equation, membership};
+ghost use Rattle.pp_algebra.specs.Terms.{count};
+ghost use Rattle.pp_domain.specs.Sets.{set_of};
+ghost use Rattle.pp_sld.specs.Selection.{given};
+ghost use Rattle.pp_term.specs.Columns.{set_by};
+ghost use Rattle.pp_term.specs.Meanings.{given_of};
+ghost use Rattle.pp_unify.specs.States.{no_columns, present, value_in, in_place, counted_from, IsOver, with_new, with_value, IsLonger, IsSolvedBy, domain_in, row_in};
+
+use crate::state::{State, Value};
+use indexmap::IndexSet;
+use pp_domain::Domain;
+use pp_term::{Given, Row, Term};
+use std::alloc::{AllocError, Global};
+use std::marker::Model;
+
+/// A kept state, by its place among all of them.
+#[derive(Clone, Copy, Debug, PartialEq, Eq)]
+pub struct Mark {
+    place: usize,
+}
+
+impl Model for Mark {
+    ghost use Rattle.std.specs.Prelude.{ℕ};
+
+    ghost Value = { ℕ };
+
+    ghost view = { λ s. s.place };
+
+    ghost inverse = { λ n. record { place = n } };
+}
+
+/// Variables with what they are bound to, and the earlier states that can be gone back to.
+///
+/// A contract sees the list of the kept states, the present one last: each is the row of all variables, where
+/// column v is the value of variable v. After an item that nothing solves, or want of memory, nothing is known of
+/// the later states: go back to a mark.
+#[derive(Debug, Drop)]
+pub struct Bindings {
+    state: State,
+}
+
+impl Model for Bindings {
+    ghost use Rattle.std.specs.Prelude.{List};
+    ghost use Rattle.pp_algebra.specs.Rows.{Row};
+    ghost use Rattle.pp_unify.specs.States.{states_of, states_code};
+    ghost use Rattle.pp_unify.specs.Soundness.{IsGood};
+
+    ghost Value = { List Row };
+
+    ghost coded = { states_code };
+
+    ghost view = { λ s. states_of s.state };
+
+    ghost invariant = { λ s. IsGood s.state };
+}
+
+impl Bindings {
+    /// No variables.
+    pub fn new(alloc: Global) -> Bindings
+        ensures { result ≡ no_columns ∷ [] }
+    {
+        Bindings {
+            state: State::new(alloc),
+        }
+    }
+
+    /// How many variables there are.
+    pub fn len(&self) -> usize
+        ensures { result ≡ count (present self.now).columns }
+    {
+        self.state.slots.len()
+    }
+
+    /// Adds a variable of this domain, and answers its number.
+    pub fn add(&mut self, domain: Option<Domain>) -> Result<u32, AllocError>
+        requires wide { IsWide (set_by domain) }
+        ensures number { IfOk result (λ v. v ≡ count (present self.old).columns) }
+        ensures added { IfOk result (λ _. present self.new ≡ with_new (present self.old) (set_by domain)) }
+        ensures kept { IsLonger self.old self.new }
+    {
+        self.state.add(domain)
+    }
+
+    /// Adds a variable that is bound to a term, and answers its number. The numbers of the term's variables are
+    /// counted from `first`.
+    pub fn keep(&mut self, term: &Term, first: u32) -> Result<u32, AllocError>
+        requires over { IsOver (present self.old) (counted_from first term.now) }
+        ensures number { IfOk result (λ v. v ≡ count (present self.old).columns) }
+        ensures kept_term { IfOk result (λ _. present self.new ≡ with_value (present self.old) (in_place (present self.old) (counted_from first term.now))) }
+        ensures kept { IsLonger self.old self.new }
+    {
+        let value = self.state.entered(term, first)?;
+        self.state.add_bound(value)
+    }
+
+    /// Makes two terms equal, and answers false where nothing does.
+    pub fn unify(&mut self, a: &Term, b: &Term) -> Result<bool, AllocError>
+        requires left { IsOver (present self.old) a.now }
+        requires right { IsOver (present self.old) b.now }
+        ensures solved { IfOk result (λ b'. IsSolvedBy (present self.old) (equation (in_place (present self.old) a.now) (in_place (present self.old) b.now)) b' (present self.new)) }
+        ensures kept { IsLonger self.old self.new }
+    {
+        self.state.unify_terms(a, 0, b, 0)
+    }
+
+    /// Makes a goal's term and a clause's term equal, and answers false where nothing does. The numbers of the
+    /// clause's variables are counted from `first`, so the clause isn't copied.
+    pub fn unify_head(&mut self, goal: &Term, head: &Term, first: u32) -> Result<bool, AllocError>
+        requires goal { IsOver (present self.old) goal.now }
+        requires head { IsOver (present self.old) (counted_from first head.now) }
+        ensures solved { IfOk result (λ b. IsSolvedBy (present self.old) (equation (in_place (present self.old) goal.now) (in_place (present self.old) (counted_from first head.now))) b (present self.new)) }
+        ensures kept { IsLonger self.old self.new }
+    {
+        self.state.unify_terms(goal, 0, head, first)
+    }
+
+    /// Makes two variables equal, and answers false where nothing does.
+    pub fn unify_variables(&mut self, a: u32, b: u32) -> Result<bool, AllocError>
+        requires left { a < count (present self.old).columns }
+        requires right { b < count (present self.old).columns }
+        ensures solved { IfOk result (λ b'. IsSolvedBy (present self.old) (equation (value_in (present self.old) a) (value_in (present self.old) b)) b' (present self.new)) }
+        ensures kept { IsLonger self.old self.new }
+    {
+        self.state.unify_variables(a, b)
+    }
+
+    /// Makes a variable be in a domain, and answers false where nothing does.
+    pub fn narrow(&mut self, variable: u32, domain: &Domain) -> Result<bool, AllocError>
+        requires within { variable < count (present self.old).columns }
+        ensures solved { IfOk result (λ b. IsSolvedBy (present self.old) (membership (value_in (present self.old) variable) (set_of domain.now)) b (present self.new)) }
+        ensures kept { IsLonger self.old self.new }
+    {
+        self.state.narrow(variable, domain)
+    }
+
+    /// The present state's place.
+    pub fn mark(&self) -> Mark
+        ensures { suc result ≡ length self.now }
+    {
+        Mark {
+            place: self.state.trail.len(),
+        }
+    }
+
+    /// Goes back to a state that was marked. It costs the changes since then.
+    pub fn undo(&mut self, mark: Mark)
+        requires kept { mark < length self.old }
+        ensures { self.new ≡ take (suc mark) self.old }
+    {
+        self.state.undo(mark.place);
+    }
+
+    /// What the top of a term is.
+    pub fn value(&self, term: &Term) -> Given
+        requires over { IsOver (present self.now) term.now }
+        ensures { given_of result ≡ given (present self.now).domains (in_place (present self.now) term.now) }
+    {
+        match self.state.top(term) {
+            Value::Int(value) => Given::Int(value),
+            Value::Variable(free) => {
+                if self.state.domain_of(free).is_some() {
+                    Given::Ranged
+                } else {
+                    Given::Free
+                }
+            }
+            _ => Given::Other,
+        }
+    }
+
+    /// The domain of a term that is a free variable with a finite domain.
+    pub fn domain_of(&self, term: &Term) -> Option<&Domain>
+        requires over { IsOver (present self.now) term.now }
+        ensures { option_map (λ d. set_of d.now) result ≡ domain_in (present self.now) (in_place (present self.now) term.now) }
+    {
+        match self.state.top(term) {
+            Value::Variable(free) => self.state.domain_of(free),
+            _ => None,
+        }
+    }
+
+    /// The row of these terms, with all bindings in place.
+    pub fn resolve_row(&self, columns: &[Term]) -> Result<Row, AllocError>
+        requires over { All (IsOver (present self.now)) columns.now }
+        ensures { IfOk result (λ r. r ≡ row_in (present self.now) columns.now) }
+    {
+        let alloc = *self.state.heap.allocator();
+        let mut numbers = IndexSet::new(alloc);
+        let mut numbered = Vec::with_capacity(alloc, columns.len())?;
+        for column in columns {
+            let resolved = self.state.resolved(column)?;
+            numbered.push(resolved.numbered(&mut numbers)?)?;
+        }
+        Ok(Row::from_numbered(numbered, self.state.domains_of(&numbers)?))
+    }
+
+    /// A copy, with all its kept states.
+    pub fn copy(&self) -> Result<Bindings, AllocError>
+        ensures { IfOk result (λ b. b ≡ self.now) }
+    {
+        Ok(Bindings {
+            state: self.state.copy()?,
+        })
+    }
+}
