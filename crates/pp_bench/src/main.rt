@@ -1,5 +1,6 @@
 //! Work to be timed: cover tests of four columns and the join of two rows of many cells (`bench/rows.sh`); two long
-//! lists that unify, two nested terms that do, and binds and undos of one variable (`bench/bindings.sh`).
+//! lists that unify, two nested terms that do, and binds and undos of one variable (`bench/bindings.sh`); the reading
+//! of a text (`bench/read.sh`).
 #![tactic(auto)]
 
 ghost use Rattle.std.specs.Prelude.{◌↔◌, All, IsTrue};
@@ -9,9 +10,11 @@ ghost use Rattle.pp_unify.specs.Tops.{IsThere};
 
 use pp_lgg::join;
 use pp_order::covers;
+use pp_read::read;
 use pp_term::{Cell, Row, Term};
 use pp_unify::Bindings;
 use std::alloc::{AllocError, Global};
+use std::io::Read;
 use std::{env, io};
 
 /// How many elements the lists have that are joined; each is two cells.
@@ -25,6 +28,9 @@ const LONG: u32 = 100_000;
 
 /// How often a variable is bound and gone back to.
 const BINDS: u32 = 1_000_000;
+
+/// How many bytes a text has at most.
+const TEXT_LIMIT: usize = 4_194_304;
 
 fn main(rt: HostRuntime) -> io::Result<()> {
     let words: Vec<String> = env::args(&rt)?.skip(1).collect(rt.alloc())?;
@@ -43,7 +49,28 @@ fn main(rt: HostRuntime) -> io::Result<()> {
     println!(rt; "{long} elements: {is_one}")?;
     println!(rt; "{deep} nested: {is_nested}")?;
     println!(rt; "{times} binds: {is_bound}")?;
-    Ok(())
+    let mut text = Vec::new(rt.alloc());
+    if asks(&words, "read") {
+        rt.stdin().read_to_end(&mut text)?;
+    } else {
+        text.extend_from_slice(b"p(1). ?- p(X) infers most.")?;
+    }
+    show(&rt, &text)
+}
+
+/// Prints how many clauses a text has, or its fault.
+fn show(rt: &HostRuntime, text: &[u8]) -> io::Result<()> {
+    let length = text.len();
+    if length > TEXT_LIMIT {
+        return println!(rt; "{length} bytes are too many");
+    }
+    match read(rt.alloc(), text) {
+        Ok(program) => {
+            let clauses = program.clauses.as_slice().len();
+            println!(rt; "{length} bytes: {clauses} clauses")
+        }
+        Err(fault) => println!(rt; "{length} bytes: {fault}"),
+    }
 }
 
 /// Whether the first word is this one.

@@ -5,8 +5,6 @@ pub mod Forms
 pub mod OneKind
 pub mod OneToken
 pub mod OneReading
-pub mod Saids
-pub mod WrittenOnce
 pub mod WorkedExamples
 pub mod PartsRead
 pub mod PartsSpelled

@@ -7,7 +7,7 @@ use Rattle.pp_language.specs.declared.which.Which.{Which}
 use Rattle.pp_language.specs.Texts.{Text}
 use Rattle.pp_language.specs.Sentences.{Ending, clean}
 use Rattle.pp_language.specs.Programs.{Written}
-use Rattle.pp_language.specs.FirstForm.{Word}
+use Rattle.pp_language.specs.Words.{Word}
 use Rattle.pp_language.specs.Statements.{Statement, is_query, Says}
 use Rattle.pp_language.specs.Faults.{AllSay, EndInQuery, IsWrongAt, IsBehindQuery, NoQuery, IsFaultAt, IsFault, sentence_words, IsInGrammar, IsSyntaxFault}
 use Rattle.pp_language.specs.Meanings.{written_by}

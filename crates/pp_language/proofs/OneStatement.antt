@@ -5,7 +5,7 @@ use Rattle.std.proofs.lemmas.Bool.{and_parts}
 use Rattle.pp_sld.specs.Verdicts.{Mode, most, unique, consistent}
 use Rattle.pp_language.specs.declared.token.Kind.{Kind}
 use Rattle.pp_language.specs.declared.token.Kind.TheVariants.{Atom, Comma, Infers, CloseSquare, Range, Equals, InDomain}
-use Rattle.pp_language.specs.FirstForm.{word}
+use Rattle.pp_language.specs.Words.{word}
 use Rattle.pp_language.specs.Phrases.{said, no_phrases, is_phrase, Part, term_part, mark}
 use Rattle.pp_language.specs.Statements.{Bounds, one_bound, two_bounds, SetPhrase, bare, bracketed, BodyItem, calls, equates, belongs, compares, QueryPhrase, asks_equal, asks_member, asks_infer, bounds_parts, more_bounds_parts, set_parts, mode_text, body_parts, query_parts, is_comparison, is_body_item}
 

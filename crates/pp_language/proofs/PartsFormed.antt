@@ -5,7 +5,7 @@ use Rattle.std.proofs.lemmas.Bool.{and_parts, and_from}
 use Rattle.pp_language.specs.declared.token.Kind.{Kind}
 use Rattle.pp_language.specs.declared.token.Kind.TheVariants.{Integer, Atom, Quoted, Infers, Variable, Left, Right, OpenSquare, CloseSquare, Comma, Point, Range, Neck, Ask, Equals, InDomain, Less, AtMost, Equal, Differ}
 use Rattle.pp_language.specs.Texts.{Text}
-use Rattle.pp_language.specs.FirstForm.{Word, word}
+use Rattle.pp_language.specs.Words.{Word, word}
 use Rattle.pp_language.specs.Phrases.{Phrase, integer_phrase, variable_phrase, said, Phrases, no_phrases, phrase_and, is_phrase, are_phrases, Part}
 use Rattle.pp_language.specs.PartsOf.{is_mark, are_parts, Group, wanting, filled, State, with_phrase, with_left, with_comma, with_mark, with_other, with_word, step, whole, state_of, parts_of}
 

@@ -4,11 +4,11 @@ use Rattle.std.specs.Prelude.{codes, option_and_then}
 use Rattle.std.proofs.lemmas.Bool.{and_parts}
 use Rattle.pp_language.specs.declared.token.Kind.{Kind}
 use Rattle.pp_language.specs.declared.token.Kind.TheVariants.{Integer, Atom, Quoted, Infers, Variable, Left, Right, OpenSquare, CloseSquare, Comma, Point, Range, Neck, Ask, Equals, InDomain, Less, AtMost, Equal, Differ}
-use Rattle.pp_language.specs.FirstForm.{Word, word, is_name_kind}
+use Rattle.pp_language.specs.Words.{Word, word, is_name_kind}
 use Rattle.pp_language.specs.Phrases.{Phrase, integer_phrase, variable_phrase, said, Phrases, no_phrases, phrase_and, phrase_words, group_words, more_phrase_words, is_phrase, are_phrases, Part, term_part, mark, mark_text, parts_words}
 use Rattle.pp_language.specs.PartsOf.{is_mark, are_parts, Group, wanting, state, with_phrase, with_word, step, whole, state_of, parts_of}
 
-with_name : (w : Word) (ps : Phrases) (gs : List Group) (qs : List Part) → is_name_kind w.kind ≡ true → step w (state ps gs qs) ≡ with_phrase (said w ps) gs qs
+pub with_name : (w : Word) (ps : Phrases) (gs : List Group) (qs : List Part) → is_name_kind w.kind ≡ true → step w (state ps gs qs) ≡ with_phrase (said w ps) gs qs
 with_name w ps gs qs h = elim w.kind as (λ k. is_name_kind k ≡ true → with_word k w.text ps gs qs ≡ with_phrase (said (word k w.text) ps) gs qs) [
   | Atom ↦ λ e. refl
   | Quoted ↦ λ e. refl

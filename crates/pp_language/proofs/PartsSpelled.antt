@@ -6,16 +6,12 @@ use Rattle.pp_language.specs.declared.token.Kind.{Kind}
 use Rattle.pp_language.specs.declared.token.Kind.TheVariants.{Integer, Atom, Quoted, Infers, Variable, Left, Right, OpenSquare, CloseSquare, Comma, Point, Range, Neck, Ask, Equals, InDomain, Less, AtMost, Equal, Differ}
 use Rattle.pp_language.specs.Texts.{Text, same_text}
 use Rattle.pp_language.specs.Kinds.{spells}
-use Rattle.pp_language.specs.FirstForm.{Word, word}
+use Rattle.pp_language.specs.Words.{Word, word}
 use Rattle.pp_language.specs.Phrases.{Phrase, integer_phrase, variable_phrase, said, Phrases, no_phrases, phrase_and, phrase_words, group_words, more_phrase_words, Part, mark_text, parts_words}
-use Rattle.pp_language.specs.PartsOf.{Group, wanting, filled, State, with_phrase, with_left, with_comma, with_mark, with_other, with_word, step, whole, state_of, parts_of}
+use Rattle.pp_language.specs.PartsOf.{Group, wanting, filled, State, with_phrase, with_left, with_comma, with_mark, with_other, with_word, step, whole, state_of, parts_of, open_words}
 use Rattle.pp_language.proofs.Forms.{same_text-true}
 
 -- the words that are read, in their order
-abbrev pub open_words : Group → List Word
-open_words (wanting ps) = more_phrase_words ps
-open_words (filled p ps) = phrase_words p ++ more_phrase_words ps
-
 abbrev pub read_words : Phrases → List Group → List Part → List Word
 read_words ps gs qs = group_words ps ++ (flat_map open_words gs ++ parts_words qs)
 
@@ -84,7 +80,7 @@ word_spells k bs no_phrases gs qs h = other_spells k bs gs qs h
 word_spells k bs (phrase_and p ps) gs qs h = tt
 
 -- what is read of these words
-abbrev Reads : List Word → Option State → Type 0
+abbrev pub Reads : List Word → Option State → Type 0
 Reads ws None = Unit {0}
 Reads ws (Some s) = state_words s ≡ ws
 
@@ -101,7 +97,7 @@ abbrev pub AreSpelled : List Word → Type 0
 AreSpelled [] = Unit {0}
 AreSpelled (w ∷ ws) = IsTrue (spells w.kind w.text) × AreSpelled ws
 
-state_reads : (ws : List Word) → AreSpelled ws → Reads ws (state_of ws)
+pub state_reads : (ws : List Word) → AreSpelled ws → Reads ws (state_of ws)
 state_reads [] h = refl
 state_reads (w ∷ ws) h = step_reads w ws (state_of ws) h.0 (state_reads ws h.1)
 

@@ -5,7 +5,7 @@ use Rattle.std.specs.List.{list_all}
 use Rattle.std.proofs.lemmas.Bool.{and_parts}
 use Rattle.pp_language.specs.declared.token.Kind.{Kind}
 use Rattle.pp_language.specs.declared.token.Kind.TheVariants.{Integer, Atom, Quoted, Infers, Variable, Left, Right, OpenSquare, CloseSquare, Comma, Point, Range, Neck, Ask, Equals, InDomain, Less, AtMost, Equal, Differ}
-use Rattle.pp_language.specs.FirstForm.{Word, is_atom_kind, is_name_kind, is_built_in, atom_of}
+use Rattle.pp_language.specs.Words.{Word, is_atom_kind, is_name_kind, is_built_in, atom_of}
 use Rattle.pp_language.specs.Phrases.{Phrase, integer_phrase, variable_phrase, said, count, is_phrase, Part}
 use Rattle.pp_language.specs.PartsOf.{is_mark, is_part, are_parts}
 use Rattle.pp_language.specs.Statements.{Bounds, one_bound, two_bounds, SetPhrase, bare, bracketed, BodyItem, calls, equates, belongs, compares, QueryPhrase, asks_equal, asks_member, asks_infer, Statement, directive, clause, query, bounds_parts, more_bounds_parts, set_parts, body_parts, query_parts, more_items, items_parts, statement_parts, is_comparison, is_saying, is_head, is_body_item, is_query_phrase, some_item, is_statement, Says}

@@ -3,7 +3,7 @@ use Rattle.std.specs.Prelude.{◌≡◌, ℕ, suc, ◌<◌, ◌⊎◌, true, fal
 use Rattle.pp_language.specs.declared.token.Token.{Token}
 use Rattle.pp_language.specs.Texts.{Text}
 use Rattle.pp_language.specs.Sentences.{Ending, clean, AreSentences}
-use Rattle.pp_language.specs.FirstForm.{Word, word_of}
+use Rattle.pp_language.specs.Words.{Word, word_of}
 use Rattle.pp_language.specs.Statements.{Statement, is_query, Says}
 
 -- each sentence is this statement

@@ -4,8 +4,7 @@ use Rattle.pp_language.specs.declared.token.Token.{Token}
 use Rattle.pp_language.specs.Texts.{Text}
 use Rattle.pp_language.specs.Sentences.{Ending, AreSentences}
 use Rattle.pp_language.specs.Programs.{Written}
-use Rattle.pp_language.specs.FirstMeaning.{IsFirstForm}
-use Rattle.pp_language.specs.FirstForm.{Word}
+use Rattle.pp_language.specs.Words.{Word}
 use Rattle.pp_language.specs.Statements.{Statement, Says}
 use Rattle.pp_language.specs.Faults.{IsInGrammar, IsSyntaxFault}
 use Rattle.pp_language.specs.Limits.{Writes, Passes}
@@ -14,10 +13,6 @@ use Rattle.pp_language.specs.declared.which.Which.{Which}
 -- a text has one list of sentences and one ending
 abbrev pub HasOneReading : Type 0
 HasOneReading = (text : Text) (ss us : List (List Token)) (e f : Ending) → AreSentences text ss e → AreSentences text us f → (ss ≡ us) × (e ≡ f)
-
--- a text of the first form writes one program
-abbrev pub WritesOnce : Type 0
-WritesOnce = (text : Text) (w v : Written) → IsFirstForm text w → IsFirstForm text v → w ≡ v
 
 -- a sentence is at most one statement
 abbrev pub SaysOnce : Type 0

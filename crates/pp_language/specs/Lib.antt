@@ -7,8 +7,8 @@ pub mod Laws
 pub mod Programs
 pub mod Printing
 pub mod Answers
-pub mod FirstForm
-pub mod FirstMeaning
+pub mod Words
+pub mod Keys
 pub mod Examples
 pub mod Phrases
 pub mod Statements

@@ -15,8 +15,8 @@ use Rattle.pp_language.specs.declared.token.Kind.TheVariants.{Atom, Quoted, Vari
 use Rattle.pp_language.specs.Texts.{Text, same_text}
 use Rattle.pp_language.specs.Kinds.{value_of, unquoted}
 use Rattle.pp_language.specs.Programs.{QueryItem, solves, infers, Query, Written}
-use Rattle.pp_language.specs.FirstForm.{Word, atom_of}
-use Rattle.pp_language.specs.FirstMeaning.{Key, key_of, same_key, named_first, texts_of, numbered}
+use Rattle.pp_language.specs.Words.{Word, atom_of}
+use Rattle.pp_language.specs.Keys.{Key, key_of, same_key, named_first, texts_of, numbered}
 use Rattle.pp_language.specs.Phrases.{Phrase, integer_phrase, variable_phrase, said, Phrases, no_phrases, phrase_and, count}
 use Rattle.pp_language.specs.Statements.{Bounds, one_bound, two_bounds, SetPhrase, bare, bracketed, BodyItem, calls, equates, belongs, compares, QueryPhrase, asks_equal, asks_member, asks_infer, Statement, directive, clause, query, statement_words}
 

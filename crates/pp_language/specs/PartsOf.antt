@@ -1,11 +1,11 @@
 -- The parts that words spell: the words are read from the right, one at a time.
-use Rattle.std.specs.Prelude.{Bool, true, false, List, [], ◌∷◌, Option, Some, None, option_and_then}
+use Rattle.std.specs.Prelude.{Bool, true, false, List, [], ◌∷◌, ◌++◌, Option, Some, None, option_and_then}
 use Rattle.std.specs.List.{list_all}
 use Rattle.pp_language.specs.declared.token.Kind.{Kind}
 use Rattle.pp_language.specs.declared.token.Kind.TheVariants.{Integer, Atom, Quoted, Variable, Left, Right, Comma, Point}
 use Rattle.pp_language.specs.Texts.{Text}
-use Rattle.pp_language.specs.FirstForm.{Word, word}
-use Rattle.pp_language.specs.Phrases.{Phrase, integer_phrase, variable_phrase, said, Phrases, no_phrases, phrase_and, is_phrase, Part, term_part, mark}
+use Rattle.pp_language.specs.Words.{Word, word}
+use Rattle.pp_language.specs.Phrases.{Phrase, integer_phrase, variable_phrase, said, Phrases, no_phrases, phrase_and, phrase_words, more_phrase_words, is_phrase, Part, term_part, mark}
 
 -- ===== which parts are meant
 
@@ -99,3 +99,8 @@ whole no_phrases (g ∷ gs) qs = None
 
 abbrev pub parts_of : List Word → Option (List Part)
 parts_of ws = option_and_then (λ s. whole s.arguments s.groups s.parts) (state_of ws)
+
+-- the words of an open group
+abbrev pub open_words : Group → List Word
+open_words (wanting ps) = more_phrase_words ps
+open_words (filled p ps) = phrase_words p ++ more_phrase_words ps

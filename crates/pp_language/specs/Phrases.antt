@@ -3,7 +3,7 @@ use Rattle.std.specs.Prelude.{ℕ, suc, Bool, true, ◌&&◌, List, [], ◌∷�
 use Rattle.pp_language.specs.declared.token.Kind.{Kind}
 use Rattle.pp_language.specs.declared.token.Kind.TheVariants.{Integer, Variable, Left, Right, Comma, Infers, OpenSquare, CloseSquare, Range, Neck, Ask, Equals, InDomain, Less, AtMost, Equal, Differ}
 use Rattle.pp_language.specs.Texts.{Text}
-use Rattle.pp_language.specs.FirstForm.{Word, word, is_name_kind}
+use Rattle.pp_language.specs.Words.{Word, word, is_name_kind}
 
 -- an integer, a variable, or an atom with its arguments
 mutual

@@ -5,7 +5,7 @@ use Rattle.pp_sld.specs.Verdicts.{Mode, most, unique, consistent}
 use Rattle.pp_language.specs.declared.token.Kind.{Kind}
 use Rattle.pp_language.specs.declared.token.Kind.TheVariants.{Atom, Comma, Infers, OpenSquare, CloseSquare, Range, Neck, Ask, Equals, InDomain, Less, AtMost, Equal, Differ}
 use Rattle.pp_language.specs.Texts.{Text}
-use Rattle.pp_language.specs.FirstForm.{Word, word, is_atom_kind, atom_of, is_built_in}
+use Rattle.pp_language.specs.Words.{Word, word, is_atom_kind, atom_of, is_built_in}
 use Rattle.pp_language.specs.Phrases.{Phrase, integer_phrase, variable_phrase, said, no_phrases, phrase_and, count, is_phrase, Part, term_part, mark, parts_words}
 
 -- an integer, or two of them and what lies between

@@ -11,8 +11,7 @@ mod which;
 
 pub use examples::worked_examples;
 pub use laws::{
-    first_fault_is_unique, first_form_is_unique, program_is_unique, statement_is_unique,
-    tokenisation_is_unique,
+    first_fault_is_unique, program_is_unique, statement_is_unique, tokenisation_is_unique,
 };
 pub use status::Status;
 pub use token::{Kind, Token};

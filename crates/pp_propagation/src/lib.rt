@@ -5,4 +5,4 @@
 
 mod laws;
 
-pub use laws::{run_is_unique, verdict_is_unique};
+pub use laws::{reply_is_unique, run_is_unique, verdict_is_unique};

@@ -1,92 +1,124 @@
--- Rows whose variables may be anything.
-use Rattle.std.proofs.Common.{◌≡◌, ℕ, zero, suc, ◌<◌, ◌≤◌, List, [], ◌∷◌, length, map, All, None, refl, ap, sym, ◌∙◌, inl, inr, arith, subst}
-use Rattle.std.specs.Prelude.{nat_eq}
-use Rattle.std.proofs.Math.ListN.{length-map}
-use Rattle.std.proofs.lemmas.List.Elements.{All-nil, All-cons, All-head, All-tail}
-use Rattle.pp_algebra.specs.Terms.{Tree, int, node, variable, none, more, put, put_all, variables_all}
-use Rattle.pp_algebra.specs.Rows.{Row, IsNumbered, IsCanonical, IsWide, IsRow, domain_at, pattern_of}
+-- Rows whose variables are all free.
+use Rattle.std.proofs.Common.{◌≡◌, ℕ, ℤ, zero, suc, ◌+◌, ◌<◌, List, [], ◌∷◌, ◌++◌, length, take, get_or, All, Option, None, refl, ap, sym, ◌∙◌, inl, inr, arith, subst, append_assoc, length-append}
+use Rattle.std.proofs.lemmas.List.{take_more, map-append}
+use Rattle.std.proofs.lemmas.List.Elements.{All-nil, All-cons, All-head, All-tail, All-append}
+use Rattle.pp_algebra.specs.Terms.{Tree, variable, more, none, count, put_all, variables_all}
+use Rattle.pp_algebra.specs.Rows.{Domain, Row, IsNumbered, IsWide, IsRow, domain_at}
 use Rattle.pp_algebra.specs.Covers.{IsIn}
-use Rattle.pp_algebra.specs.Canon.{place, firsts, canon}
-use Rattle.pp_algebra.proofs.Antisym.{covers_antisymmetric}
-use Rattle.pp_algebra.proofs.CanonLemmas.{nat_eq-IsSame, canon-IsCanonical, canon-covers, covers-canon}
-use Rattle.pp_term.specs.Columns.{trees_of}
-use Rattle.pp_term.proofs.ColumnLists.{put-trees_of}
-use Rattle.pp_resolve.specs.declared.flat.Flat.{Flat}
-use Rattle.pp_resolve.specs.declared.flat.Flat.TheVariants.{Atom, Var}
-use Rattle.pp_resolve.specs.Bindings.{flat_tree}
-use Rattle.pp_resolve.specs.FlatRows.{IsFlat, AreFlat, IsFlatRow, any_domains, free_row, free_pattern}
+use Rattle.pp_algebra.specs.Solve.{Item, equation, membership}
+use Rattle.pp_algebra.proofs.Put.{put-variable}
+use Rattle.pp_algebra.proofs.Antisym.{put-agree}
+use Rattle.pp_sld.specs.Leaves.{variables_from}
+use Rattle.pp_term.specs.Reading.{join}
+use Rattle.pp_term.specs.Columns.{set_by, sets_of}
+use Rattle.pp_unify.specs.States.{column, value_in, in_place, IsOver, with_new}
+use Rattle.pp_unify.specs.Laws.{item_in, IsItemOver}
+use Rattle.pp_resolve.specs.Unifying.{any_domains, free_row}
 
-pub length-any_domains : (n : ℕ) → length (any_domains n) ≡ n
+-- ===== one variable more
+
+from-push : (first n : ℕ) → join (variables_from first n) (more (variable (first + n)) none) ≡ variables_from first (n + 1)
+from-push first zero = ap (λ v. more (variable v) none) (omega arith)
+from-push first (suc n) =
+    let e : suc (n + 1) ≡ suc n + 1 = omega arith in
+    ap (more (variable first)) (ap (λ v. join (variables_from (suc first) n) (more (variable v) none)) (omega arith) ∙ from-push (suc first) n) ∙ ap (variables_from first) e
+
+pub free_more : (ds : List (Option Domain)) (d : Option Domain) → with_new (free_row ds) d ≡ free_row (ds ++ d ∷ [])
+free_more ds d =
+    let columns : join (variables_from 0 (length ds)) (more (variable (length ds)) none) ≡ variables_from 0 (length (ds ++ d ∷ [])) =
+    ap (λ v. join (variables_from 0 (length ds)) (more (variable v) none)) (omega arith) ∙ from-push 0 (length ds) ∙ ap (variables_from 0) (sym (length-append ds (d ∷ []))) in
+    rw columns refl
+
+length-any_domains : (n : ℕ) → length (any_domains n) ≡ n
 length-any_domains zero = refl
 length-any_domains (suc n) = ap suc (length-any_domains n)
 
-pub any_are_wide : (n : ℕ) → All IsWide (any_domains n)
+any-push : (n : ℕ) → any_domains n ++ None ∷ [] ≡ any_domains (n + 1)
+any-push zero = refl
+any-push (suc n) = let e : suc (n + 1) ≡ suc n + 1 = omega arith in ap (λ ds. None ∷ ds) (any-push n) ∙ ap any_domains e
+
+pub any_more : (ds : List (Option Domain)) (n : ℕ) → with_new (free_row (ds ++ any_domains n)) None ≡ free_row (ds ++ any_domains (n + 1))
+any_more ds n = free_more (ds ++ any_domains n) None ∙ ap free_row (append_assoc ds (any_domains n) (None ∷ []) ∙ ap (λ es. ds ++ es) (any-push n))
+
+wide_one : (ds : List (Option (List (ℤ × ℤ)))) (i : ℕ) (d : Option (List (ℤ × ℤ))) → All IsWide (sets_of ds) → i < length ds → d ≡ get_or ds i d → IsWide (set_by d)
+wide_one [] i d h l e = absurd (omega (arith, l))
+wide_one (x ∷ ds) zero d h l e = subst (λ y. IsWide (set_by y)) (sym e) (All-head IsWide (set_by x) (sets_of ds) h)
+wide_one (x ∷ ds) (suc i) d h l e = wide_one ds i d (All-tail IsWide (set_by x) (sets_of ds) h) (omega (arith, l)) e
+
+pub wide_copy : (ds : List (Option (List (ℤ × ℤ)))) (i : ℕ) (d copy : Option (List (ℤ × ℤ))) → All IsWide (sets_of ds) → i < length ds → d ≡ get_or ds i d → copy ≡ d → IsWide (set_by copy)
+wide_copy ds i d copy h l e f = subst (λ y. IsWide (set_by y)) (sym f) (wide_one ds i d h l e)
+
+pub set_more : (ds : List (Option (List (ℤ × ℤ)))) (i : ℕ) (d copy : Option (List (ℤ × ℤ))) (old new : Row) → i < length ds → d ≡ get_or ds i d → copy ≡ d → old ≡ free_row (sets_of (take i ds)) → new ≡ with_new old (set_by copy) → new ≡ free_row (sets_of (take (i + 1) ds))
+set_more ds i d copy old new l e f g h =
+    let taken : take (i + 1) ds ≡ take i ds ++ copy ∷ [] = take_more ds i d l ∙ ap (λ x. take i ds ++ x ∷ []) (sym e ∙ sym f) in
+    h ∙ ap (λ r. with_new r (set_by copy)) g ∙ free_more (sets_of (take i ds)) (set_by copy)
+    ∙ ap free_row (sym (ap sets_of taken ∙ map-append set_by (take i ds) (copy ∷ [])))
+
+-- ===== such a row
+
+from-numbered : (first n : ℕ) → IsNumbered first (variables_all (variables_from first n)) (first + n)
+from-numbered first zero = omega arith
+from-numbered first (suc n) = inr (refl, (let e : suc first + n ≡ first + suc n = omega arith in subst (IsNumbered (suc first) (variables_all (variables_from (suc first) n))) e (from-numbered (suc first) n)))
+
+all_numbered : (n : ℕ) → IsNumbered 0 (variables_all (variables_from 0 n)) n
+all_numbered n = let e : 0 + n ≡ n = omega arith in subst (IsNumbered 0 (variables_all (variables_from 0 n))) e (from-numbered 0 n)
+
+any_are_wide : (n : ℕ) → All IsWide (any_domains n)
 any_are_wide zero = All-nil IsWide
 any_are_wide (suc n) = All-cons IsWide None (any_domains n) tt (any_are_wide n)
 
-pub any_domains-map : {V : Type 0} (vs : List V) → any_domains (length vs) ≡ map (λ _. None) vs
-any_domains-map [] = refl
-any_domains-map (v ∷ vs) = ap (λ ds. None ∷ ds) (any_domains-map vs)
+pub free_is_row : (ds : List (Option Domain)) (n : ℕ) → All IsWide ds → IsRow (free_row (ds ++ any_domains n))
+free_is_row ds n h = record {
+  canonical = all_numbered (length (ds ++ any_domains n));
+  wide = All-append IsWide ds (any_domains n) h (any_are_wide n);
+}
 
-pub no_domain : (n v : ℕ) → domain_at (any_domains n) v ≡ None
+count-from : (first n : ℕ) → count (variables_from first n) ≡ n
+count-from first zero = refl
+count-from first (suc n) = ap suc (count-from (suc first) n)
+
+pub length_free : (ds : List (Option Domain)) (n : ℕ) → length (ds ++ any_domains n) ≡ length ds + n
+length_free ds n = length-append ds (any_domains n) ∙ ap (λ k. length ds + k) (length-any_domains n)
+
+pub count_free : (ds : List (Option Domain)) (n : ℕ) → count (free_row (ds ++ any_domains n)).columns ≡ length ds + n
+count_free ds n = count-from 0 (length (ds ++ any_domains n)) ∙ length_free ds n
+
+pub column-from : (f : ℕ → Tree ℕ) (first n v : ℕ) → v < n → column (put_all f (variables_from first n)) v ≡ f (first + v)
+column-from f first zero v l = absurd (omega arith)
+column-from f first (suc n) zero l = ap f (omega arith)
+column-from f first (suc n) (suc v) l = column-from f (suc first) n v (omega arith) ∙ ap f (omega arith)
+
+variable-from : (first n v : ℕ) → v < n → column (variables_from first n) v ≡ variable (first + v)
+variable-from first zero v l = absurd (omega arith)
+variable-from first (suc n) zero l = ap variable (omega arith)
+variable-from first (suc n) (suc v) l = variable-from (suc first) n v (omega arith) ∙ ap variable (omega arith)
+
+pub in_from : (first n v : ℕ) → IsIn v (variables_all (variables_from first n)) → v < first + n
+in_from first zero v i = absurd i
+in_from first (suc n) v (inl e) = omega arith
+in_from first (suc n) v (inr i) = omega (arith, in_from (suc first) n v i)
+
+pub from_in : (first n v : ℕ) → v < n → IsIn (first + v) (variables_all (variables_from first n))
+from_in first zero v l = absurd (omega arith)
+from_in first (suc n) zero l = inl (omega arith)
+from_in first (suc n) (suc v) l = let e : suc first + v ≡ first + suc v = omega arith in inr (subst (λ w. IsIn w (variables_all (variables_from (suc first) n))) e (from_in (suc first) n v (omega arith)))
+
+module _ (ds : List (Option Domain)) where
+  -- a term is itself with all bindings in place
+  term_stays : (t : Tree ℕ) → IsOver (free_row ds) t → in_place (free_row ds) t ≡ t
+  term_stays t o = put-agree (value_in (free_row ds)) variable t (λ v i. variable-from 0 (length ds) v (omega (arith, o v i, count-from 0 (length ds))) ∙ ap variable (omega arith)) ∙ put-variable t
+
+  pub item_stays : (i : Item ℕ) → IsItemOver (free_row ds) i → item_in (free_row ds) i ≡ i
+  item_stays (equation a b) o = rw (term_stays a o.0, term_stays b o.1) refl
+  item_stays (membership t d) o = rw (term_stays t o) refl
+
+no_domain : (n v : ℕ) → domain_at (any_domains n) v ≡ None
 no_domain zero v = refl
 no_domain (suc n) zero = refl
 no_domain (suc n) (suc v) = no_domain n v
 
--- numbering anew what is numbered changes nothing
-pub canon_same : (r : Row) → IsCanonical r → canon nat_eq (pattern_of r) ≡ r
-canon_same r c = sym (covers_antisymmetric r (canon nat_eq (pattern_of r)) c (canon-IsCanonical nat_eq nat_eq-IsSame (pattern_of r)) (covers-canon nat_eq nat_eq-IsSame (pattern_of r)) (canon-covers nat_eq nat_eq-IsSame (pattern_of r)))
-
-pub canon_again : (ts : List (Tree ℕ)) (n : ℕ) → IsCanonical (free_row ts n) → canon nat_eq (free_pattern ts) ≡ free_row ts n
-canon_again ts n c =
-    let p : free_pattern ts ≡ pattern_of (free_row ts n) = λ i. record { columns = trees_of ts; domains = λ v. sym (no_domain n v) i } in
-    ap (canon nat_eq) p ∙ canon_same (free_row ts n) c
-
-pub canon_row : (ts : List (Tree ℕ)) → IsRow (canon nat_eq (free_pattern ts))
-canon_row ts =
-    let names = firsts nat_eq [] (variables_all (trees_of ts)) in
-    record { canonical = canon-IsCanonical nat_eq nat_eq-IsSame (free_pattern ts); wide = subst (All IsWide) (any_domains-map names) (any_are_wide (length names)) }
-
--- ===== numbers by first occurrence lie below their count
-
-grows : (vs : List ℕ) (n m : ℕ) → IsNumbered n vs m → n ≤ m
-grows [] n m h = omega arith
-grows (x ∷ vs) n m (inl h) = grows vs n m h.1
-grows (x ∷ vs) n m (inr h) = let g = grows vs (suc n) m h.1 in omega arith
-
-pub numbered_below : (vs : List ℕ) (n m v : ℕ) → IsNumbered n vs m → IsIn v vs → v < m
-numbered_below [] n m v h i = absurd i
-numbered_below (x ∷ vs) n m v (inl h) (inl e) = let g = grows vs n m h.1 in omega arith
-numbered_below (x ∷ vs) n m v (inr h) (inl e) = let g = grows vs (suc n) m h.1 in omega arith
-numbered_below (x ∷ vs) n m v (inl h) (inr i) = numbered_below vs n m v h.1 i
-numbered_below (x ∷ vs) n m v (inr h) (inr i) = numbered_below vs (suc n) m v h.1 i
-
--- ===== flat rows
-
-pub all_flat : (ts : List (Tree ℕ)) → AreFlat (trees_of ts) → All IsFlat ts
-all_flat [] h = All-nil IsFlat
-all_flat (t ∷ ts) h = All-cons IsFlat t ts h.0 (all_flat ts h.1)
-
-renamed_flat : (f : ℕ → ℕ) (t : Tree ℕ) → IsFlat t → IsFlat (put (λ v. variable (f v)) t)
-renamed_flat f (int n) h = h
-renamed_flat f (node g none) h = tt
-renamed_flat f (node g (more t ts)) h = absurd h
-renamed_flat f (variable v) h = tt
-
-renamed_all_flat : (f : ℕ → ℕ) (ts : List (Tree ℕ)) → All IsFlat ts → AreFlat (put_all (λ v. variable (f v)) (trees_of ts))
-renamed_all_flat f [] h = tt
-renamed_all_flat f (t ∷ ts) h = (renamed_flat f t (All-head IsFlat t ts h), renamed_all_flat f ts (All-tail IsFlat t ts h))
-
--- the row of flat terms is flat
-pub canon_flat : (ts : List (Tree ℕ)) → All IsFlat ts → IsFlatRow (canon nat_eq (free_pattern ts))
-canon_flat ts h =
-    let names = firsts nat_eq [] (variables_all (trees_of ts)) in
-    record { flat = renamed_all_flat (place nat_eq names) ts h; free = sym (any_domains-map names) ∙ ap any_domains (sym (length-map names (λ _. None))) }
-
-pub flat_is : (t : Flat) → IsFlat (flat_tree t)
-flat_is (Atom a) = tt
-flat_is (Var v) = tt
-
-pub all_flat_trees : (ts : List Flat) → All IsFlat (map flat_tree ts)
-all_flat_trees [] = All-nil IsFlat
-all_flat_trees (t ∷ ts) = All-cons IsFlat (flat_tree t) (map flat_tree ts) (flat_is t) (all_flat_trees ts)
+-- the domains of variables behind the last are `any`
+pub any_behind : (ds : List (Option Domain)) (n v : ℕ) → domain_at (ds ++ any_domains n) v ≡ domain_at ds v
+any_behind [] n v = no_domain n v
+any_behind (d ∷ ds) n zero = refl
+any_behind (d ∷ ds) n (suc v) = any_behind ds n v

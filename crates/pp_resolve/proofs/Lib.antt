@@ -1,7 +1,6 @@
-pub mod FreeRows
-pub mod Slots
-pub mod Matched
-pub mod Answered
-pub mod Search
 pub mod Folded
-pub mod FlatLeast
+pub mod Search
+pub mod FreeRows
+pub mod Columns
+pub mod Numbered
+pub mod Answered

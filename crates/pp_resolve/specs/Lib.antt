@@ -1,4 +1,3 @@
-pub mod Bindings
-pub mod FlatRows
 pub mod Facts
 pub mod Matching
+pub mod Unifying

@@ -1,9 +1,8 @@
 //! What rows have in common.
-ghost use Rattle.std.specs.Prelude.{◌≡◌, ◌∷◌, [], All, IfOk};
+ghost use Rattle.std.specs.Prelude.{◌≡◌, ◌∷◌, [], IfOk};
 ghost use Rattle.pp_algebra.specs.Rows.{IsCanonical};
 ghost use Rattle.pp_algebra.specs.Terms.{count};
 ghost use Rattle.pp_algebra.specs.Least.{least_list, least_row};
-ghost use Rattle.pp_resolve.specs.FlatRows.{IsFlatRow, IsFlatOrNone};
 ghost use Rattle.pp_resolve.specs.Facts.{HaveOneWidth};
 
 use pp_lgg::join;
@@ -14,7 +13,6 @@ use std::alloc::{AllocError, Global};
 pub fn first_least(alloc: Global, rows: &[Row]) -> Result<Option<Row>, AllocError>
     requires width { HaveOneWidth rows.now }
     ensures least { IfOk result (λ row. row ≡ least_list rows.now) }
-    ensures flat { All IsFlatRow rows.now → IfOk result IsFlatOrNone }
 {
     match rows {
         [] => Ok(None),
@@ -26,7 +24,6 @@ pub fn first_least(alloc: Global, rows: &[Row]) -> Result<Option<Row>, AllocErro
 fn all_joined(alloc: Global, first: &Row, others: &[Row]) -> Result<Row, AllocError>
     requires { HaveOneWidth (first.now ∷ others.now) }
     ensures least { IfOk result (λ row. row ≡ least_row first.now others.now) }
-    ensures flat { IsFlatRow first.now → IfOk result IsFlatRow }
 {
     let mut least = alone(first)?;
     for row in others {

@@ -1,13 +1,14 @@
 -- From what was written to how the call ended.
-use Rattle.std.proofs.Common.{◌≡◌, ◌<◌, List, length, refl, subst, sym, inl, inr, Option, Some, None, IfSome}
+use Rattle.std.proofs.Common.{◌≡◌, ◌<◌, ◌≤◌, List, [], length, refl, subst, sym, inl, inr, Option, Some, None, IfSome}
+use Rattle.std.specs.Prelude.{codes}
 use Rattle.pp_language.specs.declared.status.Status.{Status}
 use Rattle.pp_language.specs.declared.status.Status.TheVariants.{Yes, No, Usage, Syntax, Stopped, Limit, ReadFault, WriteFault, Memory, Unbuilt}
 use Rattle.pp_language.specs.Texts.{Text}
-use Rattle.pp_language.specs.Answers.{usage_text, unbuilt_text}
+use Rattle.pp_language.specs.Answers.{usage_text}
 use Rattle.pp_propagation.specs.Runs.{End, yes, no, stopped}
-use Rattle.pp_propagation.specs.Replies.{status_of, AreWords, IsReplyToText, IsReply}
+use Rattle.pp_propagation.specs.Replies.{status_of, limit_text, AreWords, IsReplyToText, IsReply}
 use Rattle.pp_io.specs.Ends.{Took, GaveAll}
-use Rattle.pp_run.proofs.Replying.{too_long_reply}
+use Rattle.pp_run.proofs.Replying.{too_long, of_reply}
 use Rattle.pp_run.specs.Endings.{Replied, Wrote}
 
 pub each_told : {A : Type 0} (P : A → Type 0) (o : Option A) → ((x : A) → P x) → IfSome o P
@@ -45,13 +46,12 @@ replied reply s b before after result i r (inr w) = subst (Replied reply before 
 
 -- the statuses of a reply to a text
 is_answer : (text : Text) (s : Status) (b : Text) → IsReplyToText text s b → IsAnswer s
-is_answer text s b (inl a) = subst IsAnswer (sym a.ends) (of_end a.run.end)
+is_answer text s b r = of_reply IsAnswer text s b r tt tt tt of_end
   where
     of_end : (e : End) → IsAnswer (status_of e)
     of_end yes = tt
     of_end no = tt
     of_end stopped = tt
-is_answer text s b (inr u) = subst IsAnswer (sym u.ends) tt
 
 module _ (words : List Text) (before after : Option Text) (result : Status) where
   abbrev ToText : Text → Type 0
@@ -63,9 +63,9 @@ module _ (words : List Text) (before after : Option Text) (result : Status) wher
   reply_written : (text : Text) (s : Status) (b : Text) → AreWords words → IsReplyToText text s b → Wrote s b before after result → ToText text
   reply_written text s b good r w = replied (IsReply words text) s b before after result (is_answer text s b r) (inr (good, r)) w
 
-  pub after_long_text : (left : Option Text) → AreWords words → IfSome left (λ text. 4194304 < length text) → Wrote Unbuilt unbuilt_text before after result → IfSome left ToText
+  pub after_long_text : (left : Option Text) → AreWords words → IfSome left (λ text. 4194304 < length text) → Wrote Limit (limit_text (codes "text")) before after result → IfSome left ToText
   after_long_text None good long w = tt
-  after_long_text (Some text) good long w = reply_written text Unbuilt unbuilt_text good (too_long_reply text long) w
+  after_long_text (Some text) good long w = reply_written text Limit (limit_text (codes "text")) good (too_long text Limit (limit_text (codes "text")) long refl refl) w
 
   pub after_text : (left rest : Option Text) (text : Text) (s : Status) (b : Text) → AreWords words → GaveAll left rest text → IsReplyToText text s b → Wrote s b before after result → IfSome left ToText
   after_text None rest text s b good all r w = tt
@@ -73,3 +73,8 @@ module _ (words : List Text) (before after : Option Text) (result : Status) wher
 
 pub same_reply : (t u : Text) (s : Status) (a b : Text) → t ≡ u → a ≡ b → IsReplyToText t s b → IsReplyToText u s a
 same_reply t u s a b e f r = subst (λ (x : Text). IsReplyToText x s a) e (subst (IsReplyToText t s) (sym f) r)
+
+-- a text that was read whole
+pub drained : (left rest : Option Text) (text : Text) → GaveAll left rest text → IfSome left (λ told. length told ≤ 4194304 → rest ≡ Some [])
+drained None rest text all = tt
+drained (Some told) rest text all = λ small. all.1

@@ -1,27 +1,58 @@
--- From a run of what a text writes, and the answer to that run, to the reply to the text.
-use Rattle.std.proofs.Common.{◌≡◌, ◌<◌, ◌≤◌, ℕ, List, [], length, map, Result, Ok, Err, IfOk, refl, ap, sym, ◌∙◌, subst, inl, inr, arith}
-use Rattle.std.specs.Prelude.{Bool, true, false}
+-- From what a text writes, and what is answered for it, to the reply to the text.
+use Rattle.std.proofs.Common.{◌≡◌, ◌<◌, ◌≤◌, ℕ, List, [], All, length, map, Result, Ok, Err, IfOk, ap, sym, ◌∙◌, subst, inl, inr, arith}
+use Rattle.std.specs.Prelude.{Bool, true, false, codes}
 use Rattle.pp_algebra.specs.Terms.{Tree}
 use Rattle.pp_algebra.specs.Rows.{Row}
 use Rattle.pp_sld.specs.Goals.{program_of}
 use Rattle.pp_language.specs.declared.status.Status.{Status}
-use Rattle.pp_language.specs.declared.status.Status.TheVariants.{Unbuilt}
+use Rattle.pp_language.specs.declared.status.Status.TheVariants as status
+use Rattle.pp_language.specs.declared.which.Which.{Which}
 use Rattle.pp_language.specs.Texts.{Text}
-use Rattle.pp_language.specs.Answers.{store_text, unbuilt_text}
+use Rattle.pp_language.specs.Printing.{name_at}
 use Rattle.pp_language.specs.Programs.{Written}
-use Rattle.pp_language.specs.FirstMeaning.{IsFirstForm}
+use Rattle.pp_language.specs.Faults.{IsSyntaxFault}
+use Rattle.pp_language.specs.Limits.{Writes, Passes}
+use Rattle.pp_language.specs.Answers.{store_text, unbuilt_text}
 use Rattle.pp_propagation.specs.Runs.{End as Finished, yes, no, stopped}
-use Rattle.pp_propagation.specs.Replies.{status_of, answer_by, run_depth, run_turns, IsReplyToText}
+use Rattle.pp_propagation.specs.Replies.{status_of, answer_by, run_depth, run_turns, which_name, limit_text, syntax_text, IsTooLong, IsBuilt, IsReplyWithin, IsReplyToText}
+use Rattle.pp_term.specs.declared.clause.Clause.{Clause}
+use Rattle.pp_term.specs.declared.pred.Pred.{Pred}
+use Rattle.pp_term.specs.declared.query.Item.{Item}
+use Rattle.pp_term.specs.Meanings.{predicate_of, item_of, program}
+use Rattle.pp_resolve.specs.Facts.{HasNoBody}
+use Rattle.pp_read.specs.declared.program.Program.{Program}
+use Rattle.pp_read.specs.Programs.{written_of}
 use Rattle.pp_run.specs.declared.run.End.{End}
-use Rattle.pp_run.specs.declared.run.End.TheVariants.{Yes, No, Stopped}
-use Rattle.pp_term.specs.Meanings.{predicate_of}
-use Rattle.pp_resolve.specs.declared.fact.Fact.{Fact}
-use Rattle.pp_resolve.specs.Facts.{program}
-use Rattle.pp_run.specs.declared.read.program.Program.{Program}
-use Rattle.pp_run.specs.ReadPrograms.{written_of}
+use Rattle.pp_run.specs.declared.run.End.TheVariants as ends
 use Rattle.pp_run.specs.RunOutcomes.{end_by, query_by, Ran}
 use Rattle.pp_run.specs.Endings.{IsOrdinary}
 use Rattle.pp_run.specs.Answered.{Answers}
+use Rattle.pp_run.specs.Built.{IsOnlyGoal, HasNoOnlyGoal}
+use Rattle.pp_run.proofs.BuiltTexts.{built, no_goal, no_facts}
+
+pub ok_map : {T E : Type 0} (P Q : T → Type 0) (r : Result T E) → ((x : T) → P x → Q x) → IfOk r P → IfOk r Q
+ok_map P Q (Ok x) f h = f x h
+ok_map P Q (Err e) f h = tt
+
+-- ===== a text that is refused
+
+module _ (text : Text) (s : Status) (b : Text) where
+  pub too_long : IsTooLong text → s ≡ status.Limit → b ≡ limit_text (codes "text") → IsReplyToText text s b
+  too_long h t u = inl (h, t, u)
+
+  pub within : length text ≤ 4194304 → IsReplyWithin text s b → IsReplyToText text s b
+  within small r = inr ((λ h. let long : 4194304 < length text = h in absurd (omega (arith, small, long))), r)
+
+  pub faulty : (k : ℕ) → IsSyntaxFault text k → s ≡ status.Syntax → b ≡ syntax_text k → IsReplyWithin text s b
+  faulty k h t u = inl (record { sentence = k; fault = h; ends = t; says = u })
+
+  pub limited : (w : Which) → Passes text w → s ≡ status.Limit → b ≡ limit_text (which_name w) → IsReplyWithin text s b
+  limited w h t u = inr (inl (record { which = w; passes = h; ends = t; says = u }))
+
+  pub unbuilt : (w : Written) → (IsBuilt w → ⊥) → (s ≡ status.Unbuilt) × (b ≡ unbuilt_text) → Writes text w → IsReplyWithin text s b
+  unbuilt w none t h = inr (inr (inl (record { written = w; writes = h; unbuilt = none; ends = t.0; says = t.1 })))
+
+-- ===== a text that is run
 
 module _ (text : Text) (w : Written) (store : Row) (made : ℕ) (s : Status) (b : Text) where
   -- of a run that ended so
@@ -31,40 +62,59 @@ module _ (text : Text) (w : Written) (store : Row) (made : ℕ) (s : Status) (b 
   same_store : (e : End) (h : Ends e) (stops : Bool) → store_text w.names w.query.named store [] stops ≡ store_text w.names w.query.named h.run.store h.run.unfinished stops
   same_store e h stops = ap (λ x. store_text w.names w.query.named x [] stops) (sym h.has_store) ∙ ap (λ x. store_text w.names w.query.named h.run.store x stops) (sym h.unfinished)
 
-  replied_by : (e : End) → IsFirstForm text w → (h : Ends e) → s ≡ status_of (end_by e) → b ≡ answer_by w h.run (end_by e) → IsReplyToText text s b
-  replied_by e f h t u = inl (record { written = w; form = f; run = h.run; is_run = h.is_run; ends = t ∙ ap status_of (sym h.ends); writes = u ∙ ap (answer_by w h.run) (sym h.ends) })
+  replied_by : (e : End) → Writes text w → IsBuilt w → (h : Ends e) → s ≡ status_of (end_by e) → b ≡ answer_by w h.run (end_by e) → IsReplyWithin text s b
+  replied_by e writes is h t u = inr (inr (inr (record {
+    written = w;
+    writes = writes;
+    built = is;
+    run = h.run;
+    is_run = h.is_run;
+    ends = t ∙ ap status_of (sym h.ends);
+    says = u ∙ ap (answer_by w h.run) (sym h.ends);
+  })))
 
-  pub replied_with : (e : End) → IsFirstForm text w → Ends e → Answers w.names w.query.named e store s b → IsReplyToText text s b
-  replied_with No f h a = replied_by No f h a.0 a.1
-  replied_with Yes f h a = replied_by Yes f h a.0 (a.1 ∙ same_store Yes h false)
-  replied_with Stopped f h a = replied_by Stopped f h a.0 (a.1 ∙ same_store Stopped h true)
+  replied_with : (e : End) → Writes text w → IsBuilt w → Ends e → Answers w.names w.query.named e store s b → IsReplyWithin text s b
+  replied_with ends.No f is h a = replied_by ends.No f is h a.0 a.1
+  replied_with ends.Yes f is h a = replied_by ends.Yes f is h a.0 (a.1 ∙ same_store ends.Yes h false)
+  replied_with ends.Stopped f is h a = replied_by ends.Stopped f is h a.0 (a.1 ∙ same_store ends.Stopped h true)
 
--- a text of no form that is built
-pub unbuilt_reply : (text : Text) (s : Status) (b : Text) → ((w : Written) → IsFirstForm text w → ⊥) → s ≡ Unbuilt → b ≡ unbuilt_text → IsReplyToText text s b
-unbuilt_reply text s b none t u = inr (record { no_form = none; ends = t; writes = u })
+-- ===== in the words that the code has for a program
 
--- a text that is too long is of no form
-pub too_long_reply : (text : Text) → 4194304 < length text → IsReplyToText text Unbuilt unbuilt_text
-too_long_reply text h = unbuilt_reply text Unbuilt unbuilt_text (λ w f. let small : length text ≤ 4194304 = f.size in absurd (omega arith)) refl refl
+module _ (p : Program) (clauses : List Clause) (items : List Item) (same_clauses : clauses ≡ p.clauses) (same_items : items ≡ p.query.items) (s : Status) (b : Text) where
+  pub no_goal_reply : HasNoOnlyGoal items → (s ≡ status.Unbuilt) × (b ≡ unbuilt_text) → (text : Text) → Writes text (written_of p) → IsReplyWithin text s b
+  no_goal_reply none t text = unbuilt text s b (written_of p) (no_goal p (subst HasNoOnlyGoal same_items none)) t
 
-pub ok_map : {T E : Type 0} (P Q : T → Type 0) (r : Result T E) → ((x : T) → P x → Q x) → IfOk r P → IfOk r Q
-ok_map P Q (Ok x) f h = f x h
-ok_map P Q (Err e) f h = tt
+  pub no_facts_reply : (All HasNoBody clauses → ⊥) → (s ≡ status.Unbuilt) × (b ≡ unbuilt_text) → (text : Text) → Writes text (written_of p) → IsReplyWithin text s b
+  no_facts_reply none t text = unbuilt text s b (written_of p) (no_facts p (subst (λ cs. All HasNoBody cs → ⊥) same_clauses none)) t
 
--- the run of a program that was read, and its answer, in the words that the code has for them
-pub reply_by_run : (p : Program) (facts : List Fact) (arguments : List (Tree ℕ)) (named : List Text) (e : End) (store : Row) (made : ℕ) (s : Status) (b : Text) → facts ≡ p.facts.items → arguments ≡ p.query.arguments.items → named ≡ map (λ v. v.items) p.query.named.items → ((called : List Text) → Ran (program facts) (query_by p.query.variables called (predicate_of p.query.pred) arguments) run_depth run_turns (end_by e) store made) → Answers p.names named e store s b → (text : Text) → IsFirstForm text (written_of p) → IsReplyToText text s b
-reply_by_run p facts arguments named e store made s b ef ea en ran a text form =
-    let called = map (λ v. v.items) p.query.named.items in
-    let one : Ran (program p.facts.items) (query_by p.query.variables called (predicate_of p.query.pred) arguments) run_depth run_turns (end_by e) store made = subst (λ (fs : List Fact). Ran (program fs) (query_by p.query.variables called (predicate_of p.query.pred) arguments) run_depth run_turns (end_by e) store made) ef (ran called) in
-    let two : Ran (program p.facts.items) (query_by p.query.variables called (predicate_of p.query.pred) p.query.arguments.items) run_depth run_turns (end_by e) store made = subst (λ (ts : List (Tree ℕ)). Ran (program p.facts.items) (query_by p.query.variables called (predicate_of p.query.pred) ts) run_depth run_turns (end_by e) store made) ea one in
-    replied_with text (written_of p) store made s b e form two (subst (λ (ns : List Text). Answers p.names ns e store s b) en a)
+  -- the run of a query of one goal over facts, and its answer
+  pub run_reply : (q : Pred) (ts : List (Tree ℕ)) (e : End) (store : Row) (made : ℕ) → IsOnlyGoal items q ts → All HasNoBody clauses → ((named : List Text) → Ran (program clauses) (query_by p.query.vars named (predicate_of q) ts) run_depth run_turns (end_by e) store made) → Answers p.names (map (name_at p.names) p.query.named) e store s b → (text : Text) → Writes text (written_of p) → IsReplyWithin text s b
+  run_reply q ts e store made asks facts ran a text writes =
+      let named = map (name_at p.names) p.query.named in
+      let only : IsOnlyGoal p.query.items q ts = sym same_items ∙ asks in
+      let one : Ran (program p.clauses) (query_by p.query.vars named (predicate_of q) ts) run_depth run_turns (end_by e) store made = subst (λ cs. Ran (program cs) (query_by p.query.vars named (predicate_of q) ts) run_depth run_turns (end_by e) store made) same_clauses (ran named) in
+      let two : Ran (program p.clauses) (written_of p).query run_depth run_turns (end_by e) store made = subst (λ is. Ran (program p.clauses) (record { variables = p.query.vars; named = named; items = map item_of is }) run_depth run_turns (end_by e) store made) (sym only) one in
+      replied_with text (written_of p) store made s b e writes (built p q ts only (subst (All HasNoBody) same_clauses facts)) two a
+
+-- ===== the statuses of replies
+
+module _ (P : Status → Type 0) (text : Text) (s : Status) (b : Text) where
+  pub of_reply : IsReplyToText text s b → P status.Syntax → P status.Limit → P status.Unbuilt → ((e : Finished) → P (status_of e)) → P s
+  of_reply (inl l) on_syntax on_limit on_unbuilt on_end = subst P (sym l.1) on_limit
+  of_reply (inr (_, inl f)) on_syntax on_limit on_unbuilt on_end = subst P (sym f.ends) on_syntax
+  of_reply (inr (_, inr (inl l))) on_syntax on_limit on_unbuilt on_end = subst P (sym l.ends) on_limit
+  of_reply (inr (_, inr (inr (inl u)))) on_syntax on_limit on_unbuilt on_end = subst P (sym u.ends) on_unbuilt
+  of_reply (inr (_, inr (inr (inr a)))) on_syntax on_limit on_unbuilt on_end = subst P (sym a.ends) (on_end a.run.end)
 
 -- a reply to a text is neither the usage line nor a fault
 pub ordinary : (text : Text) (s : Status) (b : Text) → IsReplyToText text s b → IsOrdinary s
-ordinary text s b (inl a) = subst IsOrdinary (sym a.ends) (of_end a.run.end)
+ordinary text s b r = of_reply IsOrdinary text s b r
+    (record { words = λ e. absurd (cc e); reading = λ e. absurd (cc e); writing = λ e. absurd (cc e); memory = λ e. absurd (cc e) })
+    (record { words = λ e. absurd (cc e); reading = λ e. absurd (cc e); writing = λ e. absurd (cc e); memory = λ e. absurd (cc e) })
+    (record { words = λ e. absurd (cc e); reading = λ e. absurd (cc e); writing = λ e. absurd (cc e); memory = λ e. absurd (cc e) })
+    of_end
   where
     of_end : (e : Finished) → IsOrdinary (status_of e)
     of_end yes = record { words = λ e. absurd (cc e); reading = λ e. absurd (cc e); writing = λ e. absurd (cc e); memory = λ e. absurd (cc e) }
     of_end no = record { words = λ e. absurd (cc e); reading = λ e. absurd (cc e); writing = λ e. absurd (cc e); memory = λ e. absurd (cc e) }
     of_end stopped = record { words = λ e. absurd (cc e); reading = λ e. absurd (cc e); writing = λ e. absurd (cc e); memory = λ e. absurd (cc e) }
-ordinary text s b (inr u) = subst IsOrdinary (sym u.ends) (record { words = λ e. absurd (cc e); reading = λ e. absurd (cc e); writing = λ e. absurd (cc e); memory = λ e. absurd (cc e) })

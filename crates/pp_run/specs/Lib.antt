@@ -1,8 +1,6 @@
 pub mod Endings
-pub mod ReadWords
-pub mod ReadTerms
-pub mod ReadPrograms
+pub mod Refusals
 pub mod RunStores
 pub mod RunOutcomes
 pub mod Answered
-pub mod ReadFirst
+pub mod Built

@@ -9,7 +9,6 @@ use Rattle.pp_language.specs.Programs.{Query, infers}
 use Rattle.pp_propagation.specs.Stores.{Asked}
 use Rattle.pp_propagation.specs.Runs.{End, yes, no, stopped, Run, IsRun}
 use Rattle.pp_term.specs.Columns.{trees_of}
-use Rattle.pp_resolve.specs.FlatRows.{IsFlatRow}
 use Rattle.pp_run.specs.declared.run.End.{End as Ending}
 use Rattle.pp_run.specs.declared.run.End.TheVariants.{Yes, No, Stopped}
 use Rattle.pp_run.specs.declared.run.Verdict.{Verdict as Found}
@@ -32,12 +31,6 @@ abbrev pub IsOfWidth : ℕ → Found → Type 0
 IsOfWidth n Fail = Unit {0}
 IsOfWidth n Same = Unit {0}
 IsOfWidth n (Narrow given) = count given.columns ≡ n
-
--- and it is flat
-abbrev pub IsFlatVerdict : Found → Type 0
-IsFlatVerdict Fail = Unit {0}
-IsFlatVerdict Same = Unit {0}
-IsFlatVerdict (Narrow given) = IsFlatRow given
 
 abbrev pub end_by : Ending → End
 end_by Yes = yes

@@ -1,39 +1,37 @@
 // The answer of a run: its status, and the bytes to be written.
 ghost use Rattle.std.specs.Prelude.{IfOk, map};
-ghost use Rattle.pp_resolve.specs.FlatRows.{IsFlatRow};
+ghost use Rattle.pp_language.specs.Printing.{name_at};
 ghost use Rattle.pp_run.specs.Answered.{Answers};
 
-use crate::print::store_text;
+use crate::lines::NO;
 use crate::reply::Reply;
 use crate::run::{End, Outcome};
 use pp_language::Status;
-use pp_term::Names;
+use pp_print::store_text;
+use pp_term::{Names, Query};
 use std::alloc::{AllocError, Global};
 
-const NO: &[u8] = b"no\n";
-
-/// The answer of a run, in which the named variables of the query have these names.
+/// The answer of a run of this query that left no goal unfinished.
 pub(crate) fn answer(
     alloc: Global,
     names: &Names,
-    named: &[Vec<u8>],
+    query: &Query,
     outcome: &Outcome,
 ) -> Result<Reply, AllocError>
-    requires { IsFlatRow outcome.now.store }
-    ensures { IfOk result (λ r. Answers names.now (map (λ v. v.items) named.now) outcome.now.end outcome.now.store r.status r.bytes.items) }
+    ensures { IfOk result (λ r. Answers names.now (map (name_at names.now) query.now.named) outcome.now.end outcome.now.store r.status r.bytes.items) }
 {
-    match outcome.end {
-        End::No => Ok(Reply {
-            status: Status::No,
-            bytes: Vec::from_slice(alloc, NO)?,
-        }),
-        End::Yes => Ok(Reply {
-            status: Status::Yes,
-            bytes: store_text(alloc, names, named, &outcome.store, false)?,
-        }),
-        End::Stopped => Ok(Reply {
-            status: Status::Stopped,
-            bytes: store_text(alloc, names, named, &outcome.store, true)?,
-        }),
-    }
+    let (status, stopped) = match outcome.end {
+        End::No => {
+            return Ok(Reply {
+                status: Status::No,
+                bytes: Vec::from_slice(alloc, NO)?,
+            });
+        }
+        End::Yes => (Status::Yes, false),
+        End::Stopped => (Status::Stopped, true),
+    };
+    Ok(Reply {
+        status,
+        bytes: store_text(alloc, names, query, &outcome.store, [].as_slice(), stopped)?,
+    })
 }

@@ -3,8 +3,10 @@ ghost use Rattle.std.specs.Prelude.{◌≡◌, ◌≢◌, ◌⊎◌, ℕ, ◌≤
 ghost use Rattle.pp_propagation.specs.Replies.{AreWords, IsReply, IsUsage};
 ghost use Rattle.pp_io.specs.Ends.{Rose};
 ghost use Rattle.pp_run.specs.Endings.{Wrote, Replied, HasRead, IsWordsEnd, TookNothing};
+ghost use Rattle.pp_run.specs.Refusals.{HasSyntaxFault, PassesLimit, WritesUnbuilt};
 
-use crate::reply::{UNBUILT, reply_to};
+use crate::lines::{TOO_LONG, USAGE};
+use crate::reply::reply_to;
 use crate::words::are_valid;
 use pp_io::{ReadError, Sink, Source, read_all, write_all};
 use pp_language::Status;
@@ -12,8 +14,6 @@ use std::alloc::Global;
 
 /// The greatest length of a text, in bytes.
 pub const TEXT_LIMIT: usize = 4_194_304;
-
-const USAGE: &[u8] = b"usage: propia run | alone | make N\n";
 
 /// Writes the bytes of a reply, and answers its status, or the write fault.
 fn written<K: Sink>(sink: &mut K, status: Status, bytes: &[u8]) -> Status
@@ -43,6 +43,11 @@ pub fn alone<S: Source, K: Sink>(
         Replied IsUsage (K.taken sink.old) (K.taken sink.new) result × (source.new ≡ source.old) × IsWordsEnd result }
     ensures words { AreWords (map string_bytes words.now) → result ≢ Status.Usage }
 
+    // A text is refused for its first fault, for a limit, or for what is not built yet.
+    ensures syntax { result ≡ Status.Syntax → IfSome (S.left source.old) HasSyntaxFault }
+    ensures limit { result ≡ Status.Limit → IfSome (S.left source.old) PassesLimit }
+    ensures unbuilt { result ≡ Status.Unbuilt → IfSome (S.left source.old) WritesUnbuilt }
+
     // Each fault has its cause.
     ensures read_fault { result ≡ Status.ReadFault → Rose (S.faults source.old) (S.faults source.new) }
     ensures write_fault { result ≡ Status.WriteFault → Rose (K.faults sink.old) (K.faults sink.new) }
@@ -59,7 +64,7 @@ pub fn alone<S: Source, K: Sink>(
         Ok(text) => text,
         Err(ReadError::Fault) => return Status::ReadFault,
         Err(ReadError::Memory) => return Status::Memory,
-        Err(ReadError::TooLong) => return written(sink, Status::Unbuilt, UNBUILT),
+        Err(ReadError::TooLong) => return written(sink, Status::Limit, TOO_LONG),
     };
     match reply_to(alloc, &text) {
         Ok(reply) => written(sink, reply.status, &reply.bytes),

@@ -2,9 +2,9 @@
 #![tactic(auto)]
 
 mod answer;
+mod built;
 mod command;
-mod print;
-mod read;
+mod lines;
 mod reply;
 mod run;
 mod store;

@@ -1,22 +1,23 @@
 // The reply to a text: its status, and the bytes to be written.
-ghost use Rattle.std.specs.Prelude.{ℕ, ◌≤◌, length, IfOk};
+ghost use Rattle.std.specs.Prelude.{◌≡◌, ℕ, ◌≤◌, All, length, IfOk};
 ghost use Rattle.pp_language.specs.Texts.{Text};
-ghost use Rattle.pp_language.specs.FirstMeaning.{IsFirstForm};
-ghost use Rattle.pp_propagation.specs.Replies.{IsReplyToText};
+ghost use Rattle.pp_language.specs.Limits.{Writes};
+ghost use Rattle.pp_language.specs.Answers.{unbuilt_text};
+ghost use Rattle.pp_propagation.specs.Replies.{IsReplyWithin, IsReplyToText};
+ghost use Rattle.pp_term.specs.WellFormed.{IsClause, IsQuery};
+ghost use Rattle.pp_read.specs.Programs.{written_of};
 ghost use Rattle.pp_run.specs.Endings.{IsOrdinary};
-ghost use Rattle.pp_run.specs.ReadPrograms.{written_of, IsRunnable};
 
 use crate::answer::answer;
-use crate::read::{Program, read_first};
+use crate::built::{are_facts, only_goal};
+use crate::lines::{UNBUILT, limit_line, syntax_line};
 use crate::run::run;
 use pp_language::Status;
+use pp_read::{Program, ReadFault, read};
 use std::alloc::{AllocError, Global};
 
 /// The most turns that a run makes.
 const TURNS: u32 = 10_000;
-
-/// The line of a text that is of no form that is built.
-pub(crate) const UNBUILT: &[u8] = b"not built yet\n";
 
 /// A status and the bytes that go with it.
 #[derive(Debug, Drop)]
@@ -25,21 +26,32 @@ pub(crate) struct Reply {
     pub bytes: Vec<u8>,
 }
 
-/// The reply to any text that this program was read from.
+/// The reply to a program that is not built yet.
+fn unbuilt(alloc: Global) -> Result<Reply, AllocError>
+    ensures { IfOk result (λ r. (r.status ≡ Status.Unbuilt) × (r.bytes.items ≡ unbuilt_text)) }
+{
+    Ok(Reply {
+        status: Status::Unbuilt,
+        bytes: Vec::from_slice(alloc, UNBUILT)?,
+    })
+}
+
+/// The reply to any text that writes this program.
 fn reply_of(alloc: Global, program: &Program) -> Result<Reply, AllocError>
-    requires { IsRunnable program.now }
-    ensures { IfOk result (λ r. (text : Text) → IsFirstForm text (written_of program.now) → IsReplyToText text r.status r.bytes.items) }
+    requires clauses { All IsClause program.now.clauses }
+    requires query { IsQuery program.now.query }
+    ensures { IfOk result (λ r. (text : Text) → Writes text (written_of program.now) → IsReplyWithin text r.status r.bytes.items) }
 {
     let query = &program.query;
-    let outcome = run(
-        alloc,
-        &program.facts,
-        query.pred,
-        &query.arguments,
-        query.variables,
-        TURNS,
-    )?;
-    answer(alloc, &program.names, &query.named, &outcome)
+    let clauses = program.clauses.as_slice();
+    let Some((pred, arguments)) = only_goal(query.items.as_slice()) else {
+        return unbuilt(alloc);
+    };
+    if !are_facts(clauses) {
+        return unbuilt(alloc);
+    }
+    let outcome = run(alloc, clauses, pred, arguments, query.vars, TURNS)?;
+    answer(alloc, &program.names, query, &outcome)
 }
 
 /// The reply to a text.
@@ -48,11 +60,16 @@ pub(crate) fn reply_to(alloc: Global, text: &[u8]) -> Result<Reply, AllocError>
     ensures reply { IfOk result (λ r. IsReplyToText text.now r.status r.bytes.items) }
     ensures ordinary { IfOk result (λ r. IsOrdinary r.status) }
 {
-    match read_first(alloc, text)? {
-        Some(program) => reply_of(alloc, &program),
-        None => Ok(Reply {
-            status: Status::Unbuilt,
-            bytes: Vec::from_slice(alloc, UNBUILT)?,
+    match read(alloc, text) {
+        Ok(program) => reply_of(alloc, &program),
+        Err(ReadFault::Syntax(sentence)) => Ok(Reply {
+            status: Status::Syntax,
+            bytes: syntax_line(alloc, sentence)?,
         }),
+        Err(ReadFault::Limit(which)) => Ok(Reply {
+            status: Status::Limit,
+            bytes: Vec::from_slice(alloc, limit_line(which))?,
+        }),
+        Err(ReadFault::Memory) => Err(AllocError),
     }
 }

@@ -4,16 +4,14 @@ ghost use Rattle.pp_algebra.specs.Terms.{Tree, count};
 ghost use Rattle.pp_language.specs.Texts.{Text};
 ghost use Rattle.pp_propagation.specs.Turns.{HasVerdict};
 ghost use Rattle.pp_propagation.specs.Replies.{run_depth};
-ghost use Rattle.pp_term.specs.Meanings.{predicate_of};
-ghost use Rattle.pp_resolve.specs.Facts.{IsFact, program};
-ghost use Rattle.pp_term.specs.Columns.{trees_of};
-ghost use Rattle.pp_term.specs.WellFormed.{AreBelow};
-ghost use Rattle.pp_resolve.specs.FlatRows.{AreFlat, IsFlatRow};
-ghost use Rattle.pp_run.specs.RunOutcomes.{asked, query_by, verdict_by, IsOfWidth, IsFlatVerdict, end_by, Ran};
+ghost use Rattle.pp_term.specs.Meanings.{predicate_of, program};
+ghost use Rattle.pp_term.specs.WellFormed.{AreBelow, IsClause};
+ghost use Rattle.pp_resolve.specs.Facts.{HasNoBody};
+ghost use Rattle.pp_run.specs.RunOutcomes.{asked, query_by, verdict_by, IsOfWidth, end_by, Ran};
 
 use crate::store::{apply, face, opening};
-use pp_resolve::{Fact, first_answers, first_least};
-use pp_term::{Pred, Row, Term};
+use pp_resolve::{first_answers, first_least};
+use pp_term::{Clause, Pred, Row, Term};
 use std::alloc::{AllocError, Global};
 
 /// How a run ends: no goal waits, a goal fails, or the turns are used up.
@@ -41,14 +39,13 @@ enum Verdict {
 }
 
 /// The verdict of the search of a goal with `most` under its face.
-fn infer(alloc: Global, facts: &[Fact], pred: Pred, face: &Row) -> Result<Verdict, AllocError>
-    requires facts { All IsFact facts.now }
+fn infer(alloc: Global, facts: &[Clause], pred: Pred, face: &Row) -> Result<Verdict, AllocError>
+    requires clauses { All IsClause facts.now }
+    requires facts { All HasNoBody facts.now }
     requires arity { count face.now.columns ≡ pred.arity }
-    requires flat { IsFlatRow face.now }
     ensures verdict { IfOk result (λ v. (depth : ℕ) (arguments : List (Tree ℕ)) →
         HasVerdict (program facts.now) (suc depth) (asked (predicate_of pred) arguments) face.now (verdict_by v)) }
     ensures width { IfOk result (λ v. IsOfWidth (length face.now.domains) v) }
-    ensures flat { IfOk result IsFlatVerdict }
 {
     let answers = first_answers(alloc, facts, pred, face)?;
     let Some(given) = first_least(alloc, &answers)? else {
@@ -67,19 +64,18 @@ fn infer(alloc: Global, facts: &[Fact], pred: Pred, face: &Row) -> Result<Verdic
 /// The variables are numbered from 0. The goal waits again exactly where its face changed.
 pub(crate) fn run(
     alloc: Global,
-    facts: &[Fact],
+    facts: &[Clause],
     pred: Pred,
     arguments: &[Term],
     variables: u32,
     turns: u32,
 ) -> Result<Outcome, AllocError>
-    requires facts { All IsFact facts.now }
+    requires clauses { All IsClause facts.now }
+    requires facts { All HasNoBody facts.now }
     requires arity { length arguments.now ≡ pred.arity }
     requires below { AreBelow variables arguments.now }
-    requires flat { AreFlat (trees_of arguments.now) }
     ensures ran { IfOk result (λ o. (named : List Text) →
         Ran (program facts.now) (query_by variables named (predicate_of pred) arguments.now) run_depth turns (end_by o.end) o.store o.turns) }
-    ensures flat { IfOk result (λ o. IsFlatRow o.store) }
 {
     let mut store = opening(alloc, variables)?;
     let mut under = face(alloc, &store, arguments)?;

@@ -1,9 +1,5 @@
-use Rattle.std.proofs.Common.{◌≡◌, ◌<◌, length, subst, sym, ap, ◌∙◌, arith}
-use Rattle.std.proofs.lemmas.List.{take_all}
-use Rattle.pp_algebra.specs.Least.{least_row}
-use Rattle.pp_resolve.specs.FlatRows.{IsFlatRow}
+use Rattle.std.proofs.Common.{arith}
 use Rattle.pp_resolve.proofs.Folded.{same_width, least_next}
-use Rattle.pp_resolve.proofs.FlatLeast.{least_flat}
 use Rattle.pp_resolve.proofs.least.all_joined.Goals as goal
 
 pub joined-requires : goal.joined-requires
@@ -11,6 +7,3 @@ joined-requires c = same_width c.requires.0 c.loop-row.row-index c.args.first.no
 
 pub loop-row-preserved : goal.loop-row-preserved
 loop-row-preserved c = least_next c.requires.0 c.loop-row.row-index c.args.first.now c.row-item.result c.loop-row.least c.in_ok-least-2.least c.args.others.now c.requires.1 (omega arith) c.row-item.is c.loop-row.invariant c.in_ok-least-2.ensures.joined
-
-pub returns-clause-flat : goal.returns-clause-flat
-returns-clause-flat c = λ h. subst IsFlatRow (sym (c.loop-row.invariant ∙ ap (least_row c.args.first.now) (take_all c.loop-row.row-index c.args.others.now (omega arith)))) (least_flat c.args.first.now c.args.others.now h)

@@ -2,8 +2,8 @@ use Rattle.std.proofs.Common.{◌≡◌, suc, length, Some, true, ap, sym, ◌�
 use Rattle.pp_algebra.specs.Least.{least_list}
 use Rattle.pp_sld.specs.Leaves.{call}
 use Rattle.pp_sld.specs.Verdicts.{same, narrow}
-use Rattle.pp_term.specs.Meanings.{predicate_of}
-use Rattle.pp_resolve.specs.Facts.{HaveWidth, program}
+use Rattle.pp_term.specs.Meanings.{predicate_of, program}
+use Rattle.pp_resolve.specs.Facts.{HaveWidth}
 use Rattle.pp_run.proofs.FirstVerdicts.{stays, narrows, has_verdict, given_width}
 use Rattle.pp_run.proofs.run.infer.Goals as goal
 

@@ -1,27 +1,14 @@
-use Rattle.std.proofs.Common.{◌≡◌, ℕ, ◌<◌, length, true, arith, ap, sym, ◌∙◌, subst, refl}
-use Rattle.pp_algebra.specs.Terms.{count, variables_all}
-use Rattle.pp_algebra.specs.Covers.{IsIn}
-use Rattle.pp_term.specs.Columns.{trees_of}
-use Rattle.pp_resolve.specs.FlatRows.{IsFlatRow}
-use Rattle.pp_algebra.specs.Rows.{Row}
-use Rattle.pp_sld.specs.Goals.{Goal}
+use Rattle.std.proofs.Common.{◌≡◌, ◌<◌, length, true, arith, ap, sym, ◌∙◌, subst, refl}
+use Rattle.pp_algebra.specs.Terms.{count}
 use Rattle.pp_sld.specs.Verdicts.{fail, same, narrow}
-use Rattle.pp_propagation.specs.Stores.{face, face_variables, apply}
+use Rattle.pp_propagation.specs.Stores.{face_variables}
 use Rattle.pp_propagation.specs.Runs.{stopped}
 use Rattle.pp_propagation.specs.Replies.{run_depth}
-use Rattle.pp_term.specs.Meanings.{predicate_of}
-use Rattle.pp_resolve.specs.Facts.{program}
-use Rattle.pp_run.specs.RunOutcomes.{asked, query_by, verdict_by, IsOfWidth, IsFlatVerdict, Ran}
+use Rattle.pp_term.specs.Meanings.{predicate_of, program}
+use Rattle.pp_run.specs.RunOutcomes.{asked, query_by, verdict_by, IsOfWidth, Ran}
 use Rattle.pp_run.proofs.StoreRows.{count-trees_of, goal_with}
-use Rattle.pp_run.proofs.FlatStores.{face_flat, apply_flat, opening_flat}
 use Rattle.pp_run.proofs.FirstRuns.{begun, stops, fails_now, stays_now, rests_at, wakes_at, under_store, face-count, face-variables, apply-count, opening-count}
 use Rattle.pp_run.proofs.run.run.Goals as goal
-
--- a row to which a goal is narrowed leaves the store flat
-flat_after : (store given under new : Row) (g : Goal ℕ) → IsFlatRow store → IsFlatRow given → under ≡ face store g → count given.columns ≡ length under.domains → new ≡ apply store g given → IsFlatRow new
-flat_after store given under new g s h f w e =
-    let v : length under.domains ≡ length (face_variables store g) = ap (λ r. length r.domains) f ∙ face-variables store g in
-    subst IsFlatRow (sym e) (apply_flat store given g s h (omega (arith, w, v)))
 
 pub face-requires : goal.face-requires
 face-requires c = λ v i. subst (λ m. v < m) (sym (opening-count c.args.variables c.in_ok-store.store c.in_ok-store.ensures)) (c.requires.below v i)
@@ -31,31 +18,28 @@ loop-turn-init c = record {
   between = λ named. begun (program c.args.facts.now) c.args.variables named (predicate_of c.args.pred) c.args.arguments.now run_depth c.args.turns c.in_ok-store.store c.in_ok-store.ensures;
   under = c.in_ok-under.ensures;
   width = opening-count c.args.variables c.in_ok-store.store c.in_ok-store.ensures;
-  flat = opening_flat c.args.variables c.in_ok-store.store c.in_ok-store.ensures;
 }
-
-pub infer-requires-clause-flat : goal.infer-requires-clause-flat
-infer-requires-clause-flat c =
-    let g = goal_with c.args.arguments.now in
-    let below = λ (v : ℕ) (i : IsIn v (variables_all (trees_of c.args.arguments.now))). subst (λ m. v < m) (sym c.loop-turn.invariant.width) (c.requires.below v i) in
-    subst IsFlatRow (sym (c.loop-turn.invariant.under g refl)) (face_flat c.loop-turn.store g c.loop-turn.invariant.flat c.requires.flat below)
 
 pub infer-requires-clause-arity : goal.infer-requires-clause-arity
 infer-requires-clause-arity c =
     let g = goal_with c.args.arguments.now in
     ap (λ r. count r.columns) (c.loop-turn.invariant.under g refl) ∙ face-count c.loop-turn.store g ∙ count-trees_of c.args.arguments.now ∙ c.requires.arity
 
-pub returns-in-Fail-clause-ran : goal.returns-in-Fail-clause-ran
-returns-in-Fail-clause-ran c = λ named.
-    let a = asked (predicate_of c.args.pred) c.args.arguments.now in
-    let h = under_store (program c.args.facts.now) run_depth a c.loop-turn.store c.loop-turn.under _ fail (c.in_ok-infer.ensures.verdict 999 c.args.arguments.now) (c.loop-turn.invariant.under a.goal refl) (ap verdict_by c.in-Fail.is) in
-    fails_now (program c.args.facts.now) c.args.variables named (predicate_of c.args.pred) c.args.arguments.now run_depth c.args.turns c.loop-turn.store c.loop-turn.turn c.loop-turn-test.true (c.loop-turn.invariant.between named) h
+pub returns-in-Fail : goal.returns-in-Fail
+returns-in-Fail c = record {
+  ran = λ named.
+      let a = asked (predicate_of c.args.pred) c.args.arguments.now in
+      let h = under_store (program c.args.facts.now) run_depth a c.loop-turn.store c.loop-turn.under _ fail (c.in_ok-infer.ensures.verdict 999 c.args.arguments.now) (c.loop-turn.invariant.under a.goal refl) (ap verdict_by c.in-Fail.is) in
+      fails_now (program c.args.facts.now) c.args.variables named (predicate_of c.args.pred) c.args.arguments.now run_depth c.args.turns c.loop-turn.store c.loop-turn.turn c.loop-turn-test.true (c.loop-turn.invariant.between named) h;
+}
 
-pub returns-in-Same-clause-ran : goal.returns-in-Same-clause-ran
-returns-in-Same-clause-ran c = λ named.
-    let a = asked (predicate_of c.args.pred) c.args.arguments.now in
-    let h = under_store (program c.args.facts.now) run_depth a c.loop-turn.store c.loop-turn.under _ same (c.in_ok-infer.ensures.verdict 999 c.args.arguments.now) (c.loop-turn.invariant.under a.goal refl) (ap verdict_by c.in-Same.is) in
-    stays_now (program c.args.facts.now) c.args.variables named (predicate_of c.args.pred) c.args.arguments.now run_depth c.args.turns c.loop-turn.store c.loop-turn.turn c.loop-turn-test.true (c.loop-turn.invariant.between named) h
+pub returns-in-Same : goal.returns-in-Same
+returns-in-Same c = record {
+  ran = λ named.
+      let a = asked (predicate_of c.args.pred) c.args.arguments.now in
+      let h = under_store (program c.args.facts.now) run_depth a c.loop-turn.store c.loop-turn.under _ same (c.in_ok-infer.ensures.verdict 999 c.args.arguments.now) (c.loop-turn.invariant.under a.goal refl) (ap verdict_by c.in-Same.is) in
+      stays_now (program c.args.facts.now) c.args.variables named (predicate_of c.args.pred) c.args.arguments.now run_depth c.args.turns c.loop-turn.store c.loop-turn.turn c.loop-turn-test.true (c.loop-turn.invariant.between named) h;
+}
 
 pub apply-requires-clause-below : goal.apply-requires-clause-below
 apply-requires-clause-below c = λ v i. subst (λ m. v < m) (sym c.loop-turn.invariant.width) (c.requires.below v i)
@@ -72,18 +56,15 @@ face-requires-in-loop-turn c = λ v i.
     let w = ap (λ r. count r.columns) (c.in_ok-store-2.ensures g refl) ∙ apply-count c.loop-turn.store g c.in-Narrow.given ∙ c.loop-turn.invariant.width in
     subst (λ m. v < m) (sym w) (c.requires.below v i)
 
-pub returns-then-same-clause-ran : goal.returns-then-same-clause-ran
-returns-then-same-clause-ran c = λ named.
-    let a = asked (predicate_of c.args.pred) c.args.arguments.now in
-    let f = c.loop-turn.invariant.under a.goal refl in
-    let h = under_store (program c.args.facts.now) run_depth a c.loop-turn.store c.loop-turn.under _ (narrow c.in-Narrow.given) (c.in_ok-infer.ensures.verdict 999 c.args.arguments.now) f (ap verdict_by c.in-Narrow.is) in
-    rests_at (program c.args.facts.now) c.args.variables named (predicate_of c.args.pred) c.args.arguments.now run_depth c.args.turns c.loop-turn.store c.loop-turn.turn c.loop-turn-test.true (c.loop-turn.invariant.between named) c.in-Narrow.given h
-    c.in_ok-store-2.store c.loop-turn.under c.in_ok-narrowed.narrowed (c.in_ok-store-2.ensures a.goal refl) f (c.in_ok-narrowed.ensures a.goal refl) (c.same.ensures.0 c.if-same.true)
-
-pub returns-then-same-clause-flat : goal.returns-then-same-clause-flat
-returns-then-same-clause-flat c =
-    let g = goal_with c.args.arguments.now in
-    flat_after c.loop-turn.store c.in-Narrow.given c.loop-turn.under c.in_ok-store-2.store g c.loop-turn.invariant.flat (subst IsFlatVerdict c.in-Narrow.is c.in_ok-infer.ensures.flat) (c.loop-turn.invariant.under g refl) (subst (IsOfWidth (length c.loop-turn.under.domains)) c.in-Narrow.is c.in_ok-infer.ensures.width) (c.in_ok-store-2.ensures g refl)
+pub returns-then-same : goal.returns-then-same
+returns-then-same c = record {
+  ran = λ named.
+      let a = asked (predicate_of c.args.pred) c.args.arguments.now in
+      let f = c.loop-turn.invariant.under a.goal refl in
+      let h = under_store (program c.args.facts.now) run_depth a c.loop-turn.store c.loop-turn.under _ (narrow c.in-Narrow.given) (c.in_ok-infer.ensures.verdict 999 c.args.arguments.now) f (ap verdict_by c.in-Narrow.is) in
+      rests_at (program c.args.facts.now) c.args.variables named (predicate_of c.args.pred) c.args.arguments.now run_depth c.args.turns c.loop-turn.store c.loop-turn.turn c.loop-turn-test.true (c.loop-turn.invariant.between named) c.in-Narrow.given h
+      c.in_ok-store-2.store c.loop-turn.under c.in_ok-narrowed.narrowed (c.in_ok-store-2.ensures a.goal refl) f (c.in_ok-narrowed.ensures a.goal refl) (c.same.ensures.0 c.if-same.true);
+}
 
 pub loop-turn-preserved : goal.loop-turn-preserved
 loop-turn-preserved c =
@@ -95,11 +76,12 @@ loop-turn-preserved c =
           wakes_at (program c.args.facts.now) c.args.variables named (predicate_of c.args.pred) c.args.arguments.now run_depth c.args.turns c.loop-turn.store c.loop-turn.turn c.loop-turn-test.true (c.loop-turn.invariant.between named) c.in-Narrow.given h
           c.in_ok-store-2.store c.loop-turn.under c.in_ok-narrowed.narrowed (c.in_ok-store-2.ensures a.goal refl) f (c.in_ok-narrowed.ensures a.goal refl) (λ e. let t : c.same.result ≡ true = c.same.ensures.1 e in cc (t, c.if-same.false));
       under = c.in_ok-narrowed.ensures;
-      flat = flat_after c.loop-turn.store c.in-Narrow.given c.loop-turn.under c.in_ok-store-2.store a.goal c.loop-turn.invariant.flat (subst IsFlatVerdict c.in-Narrow.is c.in_ok-infer.ensures.flat) f (subst (IsOfWidth (length c.loop-turn.under.domains)) c.in-Narrow.is c.in_ok-infer.ensures.width) (c.in_ok-store-2.ensures a.goal refl);
       width = ap (λ r. count r.columns) (c.in_ok-store-2.ensures a.goal refl) ∙ apply-count c.loop-turn.store a.goal c.in-Narrow.given ∙ c.loop-turn.invariant.width;
     }
 
-pub returns-clause-ran : goal.returns-clause-ran
-returns-clause-ran c = λ named.
-    let e : c.loop-turn.turn ≡ c.args.turns = omega arith in
-    subst (Ran (program c.args.facts.now) (query_by c.args.variables named (predicate_of c.args.pred) c.args.arguments.now) run_depth c.args.turns stopped c.loop-turn.store) e (stops (program c.args.facts.now) c.args.variables named (predicate_of c.args.pred) c.args.arguments.now run_depth c.args.turns c.loop-turn.store c.loop-turn.turn e (c.loop-turn.invariant.between named))
+pub returns : goal.returns
+returns c = record {
+  ran = λ named.
+      let e : c.loop-turn.turn ≡ c.args.turns = omega arith in
+      subst (Ran (program c.args.facts.now) (query_by c.args.variables named (predicate_of c.args.pred) c.args.arguments.now) run_depth c.args.turns stopped c.loop-turn.store) e (stops (program c.args.facts.now) c.args.variables named (predicate_of c.args.pred) c.args.arguments.now run_depth c.args.turns c.loop-turn.store c.loop-turn.turn e (c.loop-turn.invariant.between named));
+}

@@ -3,9 +3,7 @@ use Rattle.pp_algebra.specs.Terms.{count}
 use Rattle.pp_language.specs.Texts.{Text}
 use Rattle.pp_propagation.specs.Stores.{face}
 use Rattle.pp_propagation.specs.Replies.{run_depth}
-use Rattle.pp_term.specs.Meanings.{predicate_of}
-use Rattle.pp_resolve.specs.FlatRows.{IsFlatRow}
-use Rattle.pp_resolve.specs.Facts.{program}
+use Rattle.pp_term.specs.Meanings.{predicate_of, program}
 use Rattle.pp_run.specs.RunStores.{OfGoal}
 use Rattle.pp_run.specs.RunOutcomes.{query_by}
 use Rattle.pp_run.proofs.FirstRuns.{Between}
@@ -16,5 +14,4 @@ invariant-loop-turn l = record {
   between : (named : List Text) → Between (program l.facts) (query_by l.variables named (predicate_of l.pred) l.arguments) run_depth l.turns l.store l.turn;
   under : OfGoal l.arguments (λ g. l.under ≡ face l.store g);
   width : count l.store.columns ≡ l.variables;
-  flat : IsFlatRow l.store;
 }

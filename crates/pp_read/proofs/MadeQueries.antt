@@ -1,0 +1,156 @@
+-- The query that the code makes is the one that the statement writes, it is well formed, and the limits are those that it passes.
+use Rattle.std.proofs.Common.{◌≡◌, ℕ, suc, ◌+◌, true, false, List, [], ◌∷◌, length, map, refl, ap, sym, ◌∙◌, subst, arith, None}
+use Rattle.std.specs.Prelude.{All, cond, count_by}
+use Rattle.std.specs.List.{list_all, list_any}
+use Rattle.std.proofs.Math.ListN.{length-map}
+use Rattle.std.proofs.lemmas.List.Sums.{sum_by-cons}
+use Rattle.std.proofs.lemmas.Bool.{and_parts, and_from}
+use Rattle.pp_algebra.specs.Terms.{Trees}
+use Rattle.pp_algebra.specs.Canon.{firsts}
+use Rattle.pp_language.specs.declared.token.Kind.TheVariants.{Ask}
+use Rattle.pp_language.specs.declared.which.Which.TheVariants.{Arity, Variables, Goals}
+use Rattle.pp_language.specs.Texts.{Text, same_text}
+use Rattle.pp_language.specs.Printing.{name_at}
+use Rattle.pp_language.specs.Programs as programs
+use Rattle.pp_language.specs.Keys.{texts_of, numbered}
+use Rattle.pp_language.specs.Phrases.{is_phrase, are_phrases, mark, parts_words}
+use Rattle.pp_language.specs.Statements.{QueryPhrase, asks_equal, asks_member, asks_infer, query, statement_parts, query_parts, items_parts, is_query_phrase}
+use Rattle.pp_language.specs.Meanings.{blanks_all, query_phrases, item_by, items_by, query_by, keyed_lists}
+use Rattle.pp_language.specs.Limits.{is_above, variable_count, query_too_wide, goal_count, when, passed}
+use Rattle.pp_term.specs.declared.query.Query.{Query}
+use Rattle.pp_term.specs.Meanings.{item_of, query_of}
+use Rattle.pp_term.specs.WellFormed.{IsQuery}
+use Rattle.pp_read.specs.declared.parts.Part.{Part}
+use Rattle.pp_read.specs.declared.items.Entry.{Entry}
+use Rattle.pp_read.specs.declared.items.Entry.TheVariants.{Call, Equate, Member, Compare, Infer}
+use Rattle.pp_read.specs.Values.{item_from, IsItemEntry}
+use Rattle.pp_read.specs.Passed.{is_wide, is_infer, query_passed}
+use Rattle.pp_read.specs.Sentences.{IsKnown}
+use Rattle.pp_read.specs.Layouts.{IsQueryEntry, AreEntries}
+use Rattle.pp_read.proofs.KnownTexts.{Known, firsts_known}
+use Rattle.pp_read.proofs.Keys.{keys_by}
+use Rattle.pp_read.proofs.ListKeys.{list_keys, list_blanks, list_terms, AreKeys, keys_of_all}
+use Rattle.pp_read.proofs.PartsAt.{parts_blanks, parts_wide, behind, good_all}
+use Rattle.pp_read.proofs.PartTexts.{words_texts, words_blanks, query_texted, items_texts, items_blanks, items_wide}
+use Rattle.pp_read.proofs.MadeItems.{values, all_made}
+use Rattle.pp_read.proofs.MadeQuery.{query_made}
+use Rattle.pp_read.proofs.PhraseTerms.{spelled_all}
+use Rattle.pp_read.proofs.MadeClauses.{saying_arguments, two_are}
+use Rattle.pp_read.proofs.WellMade.{Below, lists_below, items_made}
+
+items_are : (names : List Text) (is : List QueryPhrase) (tss : List (Trees ℕ)) → values (item_by names) is tss ≡ items_by names is tss
+items_are names [] tss = refl
+items_are names (i ∷ is) [] = refl
+items_are names (i ∷ is) (ts ∷ tss) = ap (λ gs. item_by names i ts ∷ gs) (items_are names is tss)
+
+phrases_are : (x : QueryPhrase) → is_query_phrase x ≡ true → are_phrases (query_phrases x) ≡ true
+phrases_are (asks_equal p q) h = let i = and_parts (is_phrase p) (is_phrase q) h in two_are (is_phrase p) (is_phrase q) i.0 i.1
+phrases_are (asks_member p s) h = and_from (is_phrase p) true h refl
+phrases_are (asks_infer p m) h = saying_arguments p h
+
+all_are : (is : List QueryPhrase) → list_all is_query_phrase is ≡ true → list_all are_phrases (map query_phrases is) ≡ true
+all_are [] h = refl
+all_are (i ∷ is) h = let k = and_parts (is_query_phrase i) (list_all is_query_phrase is) h in and_from (are_phrases (query_phrases i)) (list_all are_phrases (map query_phrases is)) (phrases_are i k.0) (all_are is k.1)
+
+query_blank : (names : List Text) (x : QueryPhrase) → is_query_phrase x ≡ true → parts_blanks (query_parts x) ≡ blanks_all (query_phrases x)
+query_blank names x h = (query_texted names x h).blank
+
+-- ===== annotated goals
+
+infers_cons : (e : Entry) (es : List Entry) → count_by is_infer (e ∷ es) ≡ cond (is_infer e) 1 0 + count_by is_infer es
+infers_cons e es = sum_by-cons (λ x. cond (is_infer x) 1 0) e es
+
+infers_counted : (i : ℕ) (is : List QueryPhrase) (es : List Entry) → AreEntries query_parts IsQueryEntry i is es → count_by is_infer es ≡ goal_count is
+infers_counted i [] [] s = refl
+infers_counted i [] (e ∷ es) s = absurd s
+infers_counted i (x ∷ is) [] s = absurd s
+infers_counted i (asks_equal p q ∷ is) (Equate a b ∷ es) s = omega (arith, infers_cons (Equate a b) es, infers_counted (i + 4) is es s.1)
+infers_counted i (asks_member p d ∷ is) (Member a e ∷ es) s = omega (arith, infers_cons (Member a e) es, infers_counted (i + suc (length (query_parts (asks_member p d)))) is es s.1)
+infers_counted i (asks_infer p m ∷ is) (Infer a o ∷ es) s = omega (arith, infers_cons (Infer a o) es, infers_counted (i + 4) is es s.1)
+infers_counted i (asks_equal p q ∷ is) (Call a ∷ es) s = absurd s.0
+infers_counted i (asks_equal p q ∷ is) (Member a d ∷ es) s = absurd s.0
+infers_counted i (asks_equal p q ∷ is) (Compare r a b ∷ es) s = absurd s.0
+infers_counted i (asks_equal p q ∷ is) (Infer a m ∷ es) s = absurd s.0
+infers_counted i (asks_member p d ∷ is) (Call a ∷ es) s = absurd s.0
+infers_counted i (asks_member p d ∷ is) (Equate a b ∷ es) s = absurd s.0
+infers_counted i (asks_member p d ∷ is) (Compare r a b ∷ es) s = absurd s.0
+infers_counted i (asks_member p d ∷ is) (Infer a m ∷ es) s = absurd s.0
+infers_counted i (asks_infer p m ∷ is) (Call a ∷ es) s = absurd s.0
+infers_counted i (asks_infer p m ∷ is) (Equate a b ∷ es) s = absurd s.0
+infers_counted i (asks_infer p m ∷ is) (Member a d ∷ es) s = absurd s.0
+infers_counted i (asks_infer p m ∷ is) (Compare r a b ∷ es) s = absurd s.0
+
+-- ===== a query
+
+abbrev make_query : ℕ → List Text → List programs.QueryItem → programs.Query
+make_query n xs is = record { variables = n; named = xs; items = is }
+
+-- the variables of the items are numbered as the code numbers them
+query_is : (names named : List Text) (count : ℕ) (is : List QueryPhrase) → AreKeys names named count (map query_phrases is) → make_query (length named + count) named (items_by names is (list_terms names named (length named) (map query_phrases is))) ≡ query_by names is
+query_is names named count is k =
+    let pss = map query_phrases is in
+    let tss = keyed_lists names 0 pss in
+    let ks = keys_by named count in
+    ap (λ ts. make_query (length named + count) named (items_by names is ts)) (sym k.terms)
+    ∙ ap (λ n. make_query n named (items_by names is (map (numbered ks) tss))) (sym k.size)
+    ∙ ap (λ xs. make_query (length ks) xs (items_by names is (map (numbered ks) tss))) (sym k.texts)
+    ∙ ap (λ hs. make_query (length hs) (texts_of hs) (items_by names is (map (numbered hs) tss))) (sym k.keys)
+
+module _ (names named : List Text) (count : ℕ) (ps : List Part) (is : List QueryPhrase) (g : list_all is_query_phrase is ≡ true) (k : IsKnown names named count (statement_parts (query is)) ps) where
+  query_named : named ≡ firsts same_text [] (texts_of (list_keys names 0 (map query_phrases is)))
+  query_named = k.named_is ∙ ap (firsts same_text []) (words_texts (statement_parts (query is)) k.formed ∙ items_texts names query_parts query_phrases is_query_phrase query_too_wide (query_texted names) is 0 g)
+
+  query_counted : count ≡ list_blanks (map query_phrases is)
+  query_counted = k.count_is ∙ words_blanks (statement_parts (query is)) k.formed ∙ (let e = items_blanks names query_parts query_phrases is_query_phrase query_too_wide (query_texted names) is g in omega arith)
+
+  query_keys : AreKeys names named count (map query_phrases is)
+  query_keys = subst (λ n. AreKeys names named n (map query_phrases is)) (sym query_counted) (keys_of_all names named (map query_phrases is) query_named)
+
+  query_width : list_any is_wide ps ≡ list_any query_too_wide is
+  query_width = parts_wide names named (length named) 0 (statement_parts (query is)) ps k.are ∙ items_wide names query_parts query_phrases is_query_phrase query_too_wide (query_texted names) is g
+
+  pub query_limit_is : (n : ℕ) (es : List Entry) → AreEntries query_parts IsQueryEntry 1 is es → query_passed ps (length named + count) es ≡ passed n (query is)
+  query_limit_is n es s =
+      ap (λ b. when b Arity (when (is_above 10000 (length named + count)) Variables (when (is_above 1000 (count_by is_infer es)) Goals None))) query_width
+      ∙ ap (λ v. when (list_any query_too_wide is) Arity (when (is_above 10000 v) Variables (when (is_above 1000 (count_by is_infer es)) Goals None))) (sym query_keys.counted)
+      ∙ ap (λ v. when (list_any query_too_wide is) Arity (when (is_above 10000 (variable_count (map query_phrases is))) Variables (when (is_above 1000 v) Goals None))) (infers_counted 1 is es s)
+
+  pub record QueryMade (es : List Entry) : Type 0 where
+    pub fits : All (IsItemEntry names ps) es
+    pub items : map (item_from names ps) es ≡ items_by names is (list_terms names named (length named) (map query_phrases is))
+
+  -- where no atom is too wide
+  pub query_parts_made : (es : List Entry) → list_any is_wide ps ≡ false → AreEntries query_parts IsQueryEntry 1 is es → QueryMade es
+  query_parts_made es w s =
+      let qs = statement_parts (query is) in
+      let items = items_parts query_parts is in
+      let good = good_all names qs k.known (spelled_all (parts_words qs) k.spelled) (sym (parts_wide names named (length named) 0 qs ps k.are) ∙ w) in
+      let b = behind names named (length named) (length named) 0 (mark Ask ∷ []) items ps (omega arith) k.are in
+      let r = all_made names named ps query_parts IsQueryEntry is_query_phrase query_phrases (IsItemEntry names ps) (item_from names ps) (item_by names) (query_blank names) (query_made names named ps) is es 1 (length named) _ g s b good.1 in
+      record { fits = r.fits; items = r.are ∙ items_are names is (list_terms names named (length named) (map query_phrases is)) }
+
+  query_below : All (Below (length named + count)) (list_terms names named (length named) (map query_phrases is))
+  query_below =
+      let pss = map query_phrases is in
+      let known : All (Known named) (texts_of (list_keys names 0 pss)) = subst (λ xs. All (Known xs) (texts_of (list_keys names 0 pss))) (sym query_named) (firsts_known (texts_of (list_keys names 0 pss))) in
+      let size : count ≡ list_blanks pss = query_counted in
+      lists_below names named (length named + count) (omega arith) 0 (length named) pss (all_are is g) known (omega arith)
+
+  pub record IsQueryWritten (q : Query) : Type 0 where
+    pub value : query_of names q ≡ query_by names is
+    pub formed : IsQuery q
+
+  pub query_written : (es : List Entry) (q : Query) → QueryMade es → q.vars ≡ length named + count → map (name_at names) q.named ≡ named → map item_of q.items ≡ map (item_from names ps) es → IsQueryWritten q
+  query_written es q m vars texts items =
+      let value = ap (λ n. make_query n (map (name_at names) q.named) (map item_of q.items)) vars
+      ∙ ap (λ xs. make_query (length named + count) xs (map item_of q.items)) texts
+      ∙ ap (λ is. make_query (length named + count) named is) (items ∙ m.items)
+      ∙ query_is names named count is query_keys
+      in
+      record {
+        value = value;
+        formed = record {
+          named = omega (arith, length-map q.named (name_at names), ap length texts);
+          items = items_made names named q.vars q.items is (length named) (items ∙ m.items) (subst (λ v. All (Below v) (list_terms names named (length named) (map query_phrases is))) (sym vars) query_below);
+        };
+      }
