@@ -1,0 +1,155 @@
+-- Variables by their names are numbered as they were.
+use Rattle.std.proofs.Common.{◌≡◌, ℕ, zero, suc, ◌+◌, ◌^◌, ◌<◌, ◌≤◌, true, false, not, cond, List, [], ◌∷◌, ◌++◌, map, length, Option, Some, None, inl, inr, refl, ap, sym, ◌∙◌, subst, arith, append-nil}
+use Rattle.std.specs.Prelude.{filter}
+use Rattle.std.specs.List.{flat_map, list_all}
+use Rattle.std.proofs.lemmas.Bool.{and_from, and_parts, false_from_ne_true, or_from}
+use Rattle.std.proofs.lemmas.List.Folds.{list_all-append}
+use Rattle.pp_algebra.specs.Terms.{variable, Trees, variables, variables_all}
+use Rattle.pp_algebra.specs.Rows.{Domain, IsNumbered, Pattern, Row}
+use Rattle.pp_algebra.specs.Covers.{IsIn}
+use Rattle.pp_algebra.specs.Canon.{has, firsts, canon, Distinct}
+use Rattle.pp_algebra.proofs.Antisym.{put_all-agree, occurs}
+use Rattle.pp_algebra.proofs.CanonLemmas.{IsSame, at, name, nat_eq-IsSame}
+use Rattle.pp_algebra.proofs.OneCanon.{one_canon}
+use Rattle.pp_algebra.proofs.Order.{variables_all-put_all}
+use Rattle.pp_term.proofs.Keys.{same_text-IsSame}
+use Rattle.pp_language.specs.Texts.{Text}
+use Rattle.pp_language.specs.Keys.{Key, named, unnamed, same_key, is_named, named_first, numbered}
+use Rattle.pp_language.specs.Meanings.{keys_in}
+use Rattle.pp_language.specs.Printing.{variable_text}
+use Rattle.pp_print.proofs.Phrased.{by_name_all}
+use Rattle.pp_print.proofs.ReadBack.{own_names}
+
+same_key-itself : (k : Key) → same_key k k ≡ true
+same_key-itself (named x) = same_text-IsSame.itself x
+same_key-itself (unnamed i) = nat_eq-IsSame.itself i
+
+same_key-is : (k h : Key) → same_key k h ≡ true → k ≡ h
+same_key-is (named x) (named y) e = ap named (same_text-IsSame.is x y e)
+same_key-is (named x) (unnamed j) e = absurd (cc)
+same_key-is (unnamed i) (named y) e = absurd (cc)
+same_key-is (unnamed i) (unnamed j) e = ap unnamed (nat_eq-IsSame.is i j e)
+
+same_key-IsSame : IsSame same_key
+same_key-IsSame = record { itself = same_key-itself; is = same_key-is }
+
+-- ===== named ones stand first as they stand
+
+named_stay : (ks : List Key) → list_all is_named ks ≡ true → (filter is_named ks ≡ ks) × (filter (λ k. not (is_named k)) ks ≡ [])
+named_stay [] h = (refl, refl)
+named_stay (named x ∷ ks) h = let r = named_stay ks h in (ap (λ hs. named x ∷ hs) r.0, r.1)
+named_stay (unnamed i ∷ ks) h = absurd (cc)
+
+named_first-same : (ks : List Key) → list_all is_named ks ≡ true → named_first ks ≡ ks
+named_first-same ks h = let r = named_stay ks h in ap (λ hs. hs ++ filter (λ k. not (is_named k)) ks) r.0 ∙ ap (λ hs. ks ++ hs) r.1 ∙ append-nil ks
+
+firsts-named : (seen ks : List Key) → list_all is_named seen ≡ true → list_all is_named ks ≡ true → list_all is_named (firsts same_key seen ks) ≡ true
+firsts-named seen [] h g = h
+firsts-named seen (k ∷ ks) h g =
+    let p = and_parts (is_named k) (list_all is_named ks) g in
+    elim (has same_key seen k) as (λ b. list_all is_named (cond b (firsts same_key seen ks) (firsts same_key (seen ++ k ∷ []) ks)) ≡ true) [
+      | true ↦ firsts-named seen ks h p.1
+      | false ↦ firsts-named (seen ++ k ∷ []) ks (list_all-append is_named seen (k ∷ []) ∙ and_from (list_all is_named seen) _ h (and_from (is_named k) true p.0 refl)) p.1
+    ]
+
+-- ===== the keys of numbers
+
+abbrev key : ℕ → Key
+key v = named (variable_text v)
+
+abbrev keys_from : ℕ → ℕ → List Key
+keys_from k zero = []
+keys_from k (suc m) = key k ∷ keys_from (suc k) m
+
+keys_length : (k m : ℕ) → length (keys_from k m) ≡ m
+keys_length k zero = refl
+keys_length k (suc m) = omega (arith, keys_length (suc k) m)
+
+key_at : (k m v : ℕ) → v < m → at same_key (keys_from k m) v ≡ Some (key (k + v))
+key_at k zero v l = absurd (omega arith)
+key_at k (suc m) zero l = let e : k ≡ k + 0 = omega arith in ap (λ n. Some (key n)) e
+key_at k (suc m) (suc v) l = let e : suc k + v ≡ k + suc v = omega arith in key_at (suc k) m v (omega arith) ∙ ap (λ n. Some (key n)) e
+
+named_is : (x y : Text) → named x ≡ named y → x ≡ y
+named_is x y e = cc
+
+key_is : (v w : ℕ) → v < 10 ^ 64 → w < 10 ^ 64 → same_key (key v) (key w) ≡ true → v ≡ w
+key_is v w l k e = own_names v w l k (named_is (variable_text v) (variable_text w) (same_key-is (key v) (key w) e))
+
+-- each number below the end of the list is below the greatest
+abbrev AreBelow : ℕ → ℕ → Type 0
+AreBelow k m = (v : ℕ) → k ≤ v → v < k + m → v < 10 ^ 64
+
+no_key : (k m v : ℕ) → AreBelow k m → v < k → v < 10 ^ 64 → has same_key (keys_from k m) (key v) ≡ false
+no_key k zero v b l small = refl
+no_key k (suc m) v b l small = or_from (same_key (key k) (key v)) (has same_key (keys_from (suc k) m) (key v))
+    (false_from_ne_true _ (λ e. let f : k ≡ v = key_is k v (b k (omega arith) (omega arith)) small e in omega (arith, f)))
+    (no_key (suc k) m v (λ w low high. b w (omega arith) (omega arith)) (omega arith) small)
+
+keys_distinct : (k m : ℕ) → AreBelow k m → Distinct same_key (keys_from k m)
+keys_distinct k zero b = tt
+keys_distinct k (suc m) b =
+    let c : AreBelow (suc k) m = λ w low high. b w (omega arith) (omega arith) in
+    (no_key (suc k) m k c (omega arith) (b k (omega arith) (omega arith)), keys_distinct (suc k) m c)
+
+-- ===== numbers by first occurrence
+
+grows : (vs : List ℕ) (n m : ℕ) → IsNumbered n vs m → n ≤ m
+grows [] n m h = omega (arith, h)
+grows (x ∷ vs) n m (inl h) = grows vs n m h.1
+grows (x ∷ vs) n m (inr h) = omega (arith, grows vs (suc n) m h.1)
+
+below : (vs : List ℕ) (n m v : ℕ) → IsNumbered n vs m → IsIn v vs → v < m
+below [] n m v h i = absurd i
+below (x ∷ vs) n m v (inl h) (inl e) = omega (arith, e, h.0, grows vs n m h.1)
+below (x ∷ vs) n m v (inr h) (inl e) = omega (arith, e, h.0, grows vs (suc n) m h.1)
+below (x ∷ vs) n m v (inl h) (inr i) = below vs n m v h.1 i
+below (x ∷ vs) n m v (inr h) (inr i) = below vs (suc n) m v h.1 i
+
+abbrev anys : ℕ → List (Option Domain)
+anys zero = []
+anys (suc m) = None ∷ anys m
+
+anys_are : (k m : ℕ) → anys m ≡ map (λ k. None) (keys_from k m)
+anys_are k zero = refl
+anys_are k (suc m) = ap (λ ds. None ∷ ds) (anys_are (suc k) m)
+
+anys_length : (m : ℕ) → length (anys m) ≡ m
+anys_length zero = refl
+anys_length (suc m) = omega (arith, anys_length m)
+
+all_named : (vs : List ℕ) → list_all is_named (flat_map (λ v. variables (variable (key v))) vs) ≡ true
+all_named [] = refl
+all_named (v ∷ vs) = all_named vs
+
+module _ (ts : Trees ℕ) (m : ℕ) (canonical : IsNumbered 0 (variables_all ts) m) (small : (v : ℕ) → IsIn v (variables_all ts) → v < 10 ^ 64) where
+  are_below : AreBelow 0 m
+  are_below v low high = small v (occurs (variables_all ts) 0 m v canonical low (omega (arith, high)))
+
+  abbrev row : Row
+  row = record { columns = ts; domains = anys m }
+
+  abbrev pattern : Pattern Key
+  pattern = record { columns = by_name_all ts; domains = λ k. None }
+
+  named_by : (v : ℕ) → IsIn v (variables_all ts) → name same_key (at same_key (keys_from 0 m) v) ≡ variable (key v)
+  named_by v i = let e : 0 + v ≡ v = omega arith in ap (name same_key) (key_at 0 m v (below (variables_all ts) 0 m v canonical i)) ∙ ap (λ n. variable (key n)) e
+
+  row_is : row ≡ canon same_key pattern
+  row_is = one_canon same_key same_key-IsSame pattern row (keys_from 0 m)
+      (subst (IsNumbered 0 (variables_all ts)) (sym (anys_length m)) canonical)
+      (keys_distinct 0 m are_below)
+      (put_all-agree (λ k. name same_key (at same_key (keys_from 0 m) k)) (λ v. variable (key v)) ts named_by)
+      (anys_are 0 m)
+      (anys_length m ∙ sym (keys_length 0 m))
+
+  keys_named : list_all is_named (variables_all (by_name_all ts)) ≡ true
+  keys_named = ap (list_all is_named) (variables_all-put_all (λ v. variable (key v)) ts) ∙ all_named (variables_all ts)
+
+  -- the numbers of the variables by first occurrence of their names are their own
+  pub numbered-back : numbered (named_first (keys_in (by_name_all ts ∷ []))) (by_name_all ts) ≡ ts
+  numbered-back =
+      let e : variables_all (by_name_all ts) ++ [] ≡ variables_all (by_name_all ts) = append-nil (variables_all (by_name_all ts)) in
+      ap (λ ks. numbered (named_first (firsts same_key [] ks)) (by_name_all ts)) e
+      ∙ ap (λ ks. numbered ks (by_name_all ts)) (named_first-same (firsts same_key [] (variables_all (by_name_all ts))) (firsts-named [] (variables_all (by_name_all ts)) refl keys_named))
+      ∙ sym (ap (λ r. r.columns) row_is)
