@@ -1,6 +1,7 @@
 pub mod Once
 pub mod Exists
 pub mod Trees
+pub mod OneVerdict
 pub mod Paths
 pub mod Covered
 pub mod Reached

@@ -8,8 +8,8 @@ use Rattle.pp_sld.specs.Goals.{Shape, Program, Config}
 use Rattle.pp_sld.specs.Ways.{Way, Leads, IsDead}
 use Rattle.pp_sld.specs.Trees.{Search, IsSearch}
 use Rattle.pp_sld.specs.Trace.{trace}
-use Rattle.pp_sld.specs.Leaves.{call, root, answer_rows, loose_rows}
-use Rattle.pp_sld.specs.Verdicts.{Mode, Verdict, unfinished, verdict}
+use Rattle.pp_sld.specs.Leaves.{call, root, answer_rows, loose_rows, HasLeaves}
+use Rattle.pp_sld.specs.Verdicts.{Mode, Verdict, unfinished, verdict, HasVerdict}
 use Rattle.pp_sld.specs.Findings.{finding, join_finding, outcome, settled}
 use Rattle.pp_sld.specs.Paths.{Level, level, worth, at_path, AllLast, PathComesTo}
 
@@ -28,6 +28,14 @@ HasAtMostOneSearch = (clauses : Program) (c : Config) (t u : Search) → IsSearc
 -- each configuration has one search tree
 abbrev pub HasOneSearch : Type 0
 HasOneSearch = (clauses : Program) (c : Config) → (t : Search) × IsSearch clauses c t × ((u : Search) → IsSearch clauses c u → t ≡ u)
+
+-- a configuration has one list of answers and one of loose ends
+abbrev pub HasOneListOfLeaves : Type 0
+HasOneListOfLeaves = (clauses : Program) (c : Config) → (A C : List Row) × HasLeaves clauses c A C × ((B D : List Row) → HasLeaves clauses c B D → (A ≡ B) × (C ≡ D))
+
+-- a goal under a face has one verdict at each depth
+abbrev pub HasOneVerdict : Type 0
+HasOneVerdict = (clauses : Program) (depth : ℕ) (m : Mode) (shape : Shape) (face : Row) → (v : Verdict) × HasVerdict clauses depth m shape face v × ((w : Verdict) → HasVerdict clauses depth m shape face w → v ≡ w)
 
 -- the findings of two pairs of lists, joined, are the finding of the lists put one behind the other
 abbrev pub FindingsJoin : Type 0

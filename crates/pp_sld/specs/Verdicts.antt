@@ -1,8 +1,10 @@
 -- The verdict of a search in each of the three modes, from the list of its answers and the list of its loose ends.
-use Rattle.std.specs.Prelude.{Bool, true, false, cond, List, [], ◌∷◌, ◌++◌}
+use Rattle.std.specs.Prelude.{◌≡◌, ℕ, Bool, true, false, cond, List, [], ◌∷◌, ◌++◌}
 use Rattle.pp_algebra.specs.Rows.{Row}
 use Rattle.pp_algebra.specs.Canon.{same_row}
 use Rattle.pp_algebra.specs.Least.{least_row}
+use Rattle.pp_sld.specs.Goals.{Shape, Program}
+use Rattle.pp_sld.specs.Leaves.{call, root, HasLeaves}
 
 pub data Mode : Type 0 where
   most unique consistent : Mode
@@ -32,3 +34,10 @@ verdict unique call (a ∷ A) C = cond (another a A) nothing (cond (some_row C) 
 verdict consistent call [] [] = fail
 verdict consistent call [] (c ∷ C) = unfinished
 verdict consistent call (a ∷ A) C = nothing
+
+-- a goal of this shape, under a face and at a depth, has this verdict
+pub record HasVerdict (clauses : Program) (depth : ℕ) (mode : Mode) (shape : Shape) (face : Row) (v : Verdict) : Type 0 where
+  pub answers : List Row
+  pub loose_ends : List Row
+  pub leaves : HasLeaves clauses (root shape face depth) answers loose_ends
+  pub is_verdict : verdict mode (call face) answers loose_ends ≡ v

@@ -1,6 +1,6 @@
 //! The laws of search.
 ghost use Rattle.pp_sld.specs.Ways.{Way};
-ghost use Rattle.pp_sld.specs.Laws.{Goes, LeadsOnce, HasAtMostOneSearch, HasOneSearch, FindingsJoin, OutcomeIsVerdict, SettledStays, CallCoversLeaves, LeavesAreWide, Deepens, LastIsPath, SplitKeeps, NextKeeps, DownKeeps};
+ghost use Rattle.pp_sld.specs.Laws.{Goes, LeadsOnce, HasAtMostOneSearch, HasOneSearch, HasOneListOfLeaves, HasOneVerdict, FindingsJoin, OutcomeIsVerdict, SettledStays, CallCoversLeaves, LeavesAreWide, Deepens, LastIsPath, SplitKeeps, NextKeeps, DownKeeps};
 
 /// A way leads to at most one configuration, and a configuration has at most one search tree.
 pub fn search_is_unique()
@@ -12,6 +12,12 @@ pub fn search_is_unique()
 pub fn search_is_total()
     ensures ways { (w : Way) → Goes w }
     ensures trees { HasOneSearch }
+{}
+
+/// A goal under a face has one list of answers, one of loose ends and one verdict at each depth.
+pub fn verdict_is_unique()
+    ensures leaves { HasOneListOfLeaves }
+    ensures verdict { HasOneVerdict }
 {}
 
 /// What is known of a search may be gathered in parts, two findings joined at a time; the outcome of the whole is

@@ -8,5 +8,6 @@ mod laws;
 
 pub use examples::{worked_decisions, worked_verdicts};
 pub use laws::{
-    findings_give_the_verdict, paths_keep_every_leaf, search_is_total, search_is_unique,
+    call_covers_what_is_found, deepening_keeps_verdicts, findings_give_the_verdict,
+    paths_keep_every_leaf, search_is_total, search_is_unique, verdict_is_unique,
 };
