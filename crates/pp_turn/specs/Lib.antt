@@ -1,0 +1,6 @@
+pub mod Locks
+pub mod Logs
+pub mod Seats
+pub mod Steps
+pub mod Turns
+pub mod Views
