@@ -5,6 +5,8 @@ use Rattle.std.specs.List.{flat_map}
 use Rattle.pp_algebra.specs.Terms.{Trees, none, more, variables_all}
 use Rattle.pp_algebra.specs.Rows.{Domain, Row}
 use Rattle.pp_algebra.specs.Canon.{has}
+use Rattle.pp_language.specs.declared.which.Which.{Which}
+use Rattle.pp_language.specs.declared.which.Which.TheVariants.{Clauses, Arity, Variables, Goals}
 use Rattle.pp_language.specs.Texts.{Text}
 use Rattle.pp_language.specs.Printing.{term_text, ranged_text}
 
@@ -47,6 +49,23 @@ no_text = line (codes "no")
 
 abbrev pub usage_text : Text
 usage_text = line (codes "usage: propia run | alone | make N")
+
+-- the sentence of a text's fault
+abbrev pub syntax_text : ℕ → Text
+syntax_text k = line (codes "syntax in sentence " ++ decimal k)
+
+-- the name of a limit that is passed, for a text that is too long the name `text`
+abbrev pub which_name : Which → Text
+which_name Clauses = codes "clauses"
+which_name Arity = codes "arity"
+which_name Variables = codes "variables"
+which_name Goals = codes "goals"
+
+abbrev pub limit_text : Text → Text
+limit_text name = line (codes "limit: " ++ name)
+
+abbrev pub length_text : Text
+length_text = limit_text (codes "text")
 
 abbrev pub unbuilt_text : Text
 unbuilt_text = line (codes "not built yet")

@@ -8,6 +8,7 @@ pub mod Programs
 pub mod Printing
 pub mod Answers
 pub mod Words
+pub mod Commands
 pub mod Keys
 pub mod Examples
 pub mod Phrases

@@ -1,8 +1,9 @@
--- The counted quantities of a text, and the first limit that is passed.
-use Rattle.std.specs.Prelude.{◌≡◌, ℕ, suc, Bool, false, cond, not, ◌||◌, nat_le, List, [], ◌∷◌, map, length, Option, Some, None}
+-- The limits of a text: its length, its counted quantities, and the first limit that is passed.
+use Rattle.std.specs.Prelude.{◌≡◌, ℕ, suc, ◌<◌, Bool, false, cond, not, ◌||◌, nat_le, List, [], ◌∷◌, map, length, Option, Some, None}
 use Rattle.std.specs.List.{list_any}
 use Rattle.pp_language.specs.declared.which.Which.{Which}
 use Rattle.pp_language.specs.declared.which.Which.TheVariants.{Clauses, Arity, Variables, Goals}
+use Rattle.pp_language.specs.declared.limits.TheConstants.{TEXT_LIMIT, CLAUSE_LIMIT, ARITY_LIMIT, CLAUSE_VARIABLE_LIMIT, QUERY_VARIABLE_LIMIT, GOAL_LIMIT}
 use Rattle.pp_language.specs.Texts.{Text}
 use Rattle.pp_language.specs.Programs.{Written}
 use Rattle.pp_language.specs.Phrases.{Phrase, integer_phrase, variable_phrase, said, Phrases, no_phrases, phrase_and, count}
@@ -10,15 +11,19 @@ use Rattle.pp_language.specs.Statements.{BodyItem, calls, equates, belongs, comp
 use Rattle.pp_language.specs.Meanings.{keyed_lists, keys_in, said_arguments, body_phrases, query_phrases, written_by}
 use Rattle.pp_language.specs.Faults.{IsInGrammar}
 
+-- the text is longer than any that is read
+abbrev pub IsTooLong : Text → Type 0
+IsTooLong text = TEXT_LIMIT < length text
+
 abbrev pub is_above : ℕ → ℕ → Bool
 is_above limit n = not (nat_le n limit)
 
--- some atom has more than 255 arguments
+-- some atom has more arguments than a compound may have
 abbrev mutual
   pub is_too_wide : Phrase → Bool
   is_too_wide (integer_phrase bs) = false
   is_too_wide (variable_phrase bs) = false
-  is_too_wide (said w ps) = is_above 255 (count ps) || are_too_wide ps
+  is_too_wide (said w ps) = is_above ARITY_LIMIT (count ps) || are_too_wide ps
 
   pub are_too_wide : Phrases → Bool
   are_too_wide no_phrases = false
@@ -52,13 +57,13 @@ when b w later = cond b (Some w) later
 abbrev pub passed : ℕ → Statement → Option Which
 passed n (directive w) = None
 passed n (clause p is) =
-    when (is_above 65535 (suc n)) Clauses
+    when (is_above CLAUSE_LIMIT (suc n)) Clauses
     (when (is_too_wide p || list_any body_too_wide is) Arity
-    (when (is_above 255 (variable_count (said_arguments p ∷ map body_phrases is))) Variables None))
+    (when (is_above CLAUSE_VARIABLE_LIMIT (variable_count (said_arguments p ∷ map body_phrases is))) Variables None))
 passed n (query is) =
     when (list_any query_too_wide is) Arity
-    (when (is_above 10000 (variable_count (map query_phrases is))) Variables
-    (when (is_above 1000 (goal_count is)) Goals None))
+    (when (is_above QUERY_VARIABLE_LIMIT (variable_count (map query_phrases is))) Variables
+    (when (is_above GOAL_LIMIT (goal_count is)) Goals None))
 
 abbrev pub clauses_behind : ℕ → Statement → ℕ
 clauses_behind n (directive w) = n
