@@ -1,0 +1,4 @@
+pub mod Runs
+pub mod Worths
+pub mod Journals
+pub mod Laws
