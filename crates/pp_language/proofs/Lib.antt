@@ -13,3 +13,6 @@ pub mod OneStatement
 pub mod OneItems
 pub mod OneFault
 pub mod StatementParts
+pub mod CommandsRead
+pub mod CommandsMade
+pub mod CommandExamples

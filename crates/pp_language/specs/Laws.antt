@@ -1,6 +1,8 @@
 -- The laws of the language, as statements.
 use Rattle.std.specs.Prelude.{◌≡◌, ℕ, List}
 use Rattle.pp_language.specs.declared.token.Token.{Token}
+use Rattle.pp_language.specs.declared.command.Command.{Command}
+use Rattle.pp_language.specs.Commands.{AreWordsOf}
 use Rattle.pp_language.specs.Texts.{Text}
 use Rattle.pp_language.specs.Sentences.{Ending, AreSentences}
 use Rattle.pp_language.specs.Programs.{Written}
@@ -35,3 +37,7 @@ PassesOneLimit = (text : Text) (w v : Which) → Passes text w → Passes text v
 
 abbrev pub WritesOrPasses : Type 0
 WritesOrPasses = (text : Text) (w : Written) (v : Which) → Writes text w → Passes text v → ⊥
+
+-- words ask for at most one command
+abbrev pub HasOneCommand : Type 0
+HasOneCommand = (words : List Text) (c d : Command) → AreWordsOf words c → AreWordsOf words d → c ≡ d

@@ -17,3 +17,4 @@ pub mod Faults
 pub mod Meanings
 pub mod Limits
 pub mod PartsOf
+pub mod CommandExamples

@@ -1,5 +1,6 @@
-//! Worked examples of what is printed.
+//! Worked examples of what is printed, and of words.
 ghost use Rattle.pp_language.specs.Examples.{AdjacentIntegersJoin, SpacedAtomIsQuoted, QuoteIsDoubled, InfersIsQuoted, PlainAtomIsPlain, CompoundIsWritten, RangesFollowColumns, NoLine, UsageLine};
+ghost use Rattle.pp_language.specs.CommandExamples.{AloneIsPlain, BothSpellings, ZerosMayLead, NumberStandsLast, TraceIsTold, OthersAreNoWords, MoreAreNoWords};
 
 /// How domains, atoms, terms and rows are written, and two of the fixed lines.
 pub fn worked_examples()
@@ -12,4 +13,15 @@ pub fn worked_examples()
     ensures ranges_follow_columns { RangesFollowColumns }
     ensures no_line { NoLine }
     ensures usage_line { UsageLine }
+{}
+
+/// Which words ask for a command, and which for none.
+pub fn worked_commands()
+    ensures alone_is_plain { AloneIsPlain }
+    ensures both_spellings { BothSpellings }
+    ensures zeros_may_lead { ZerosMayLead }
+    ensures number_stands_last { NumberStandsLast }
+    ensures trace_is_told { TraceIsTold }
+    ensures others_are_no_words { OthersAreNoWords }
+    ensures more_are_no_words { MoreAreNoWords }
 {}

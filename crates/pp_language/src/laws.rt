@@ -1,5 +1,5 @@
 //! The laws of the language.
-ghost use Rattle.pp_language.specs.Laws.{HasOneReading, SaysOnce, GrammarHasNoFault, OneFirstFault, WritesOneProgram, PassesOneLimit, WritesOrPasses};
+ghost use Rattle.pp_language.specs.Laws.{HasOneReading, SaysOnce, GrammarHasNoFault, OneFirstFault, WritesOneProgram, PassesOneLimit, WritesOrPasses, HasOneCommand};
 
 /// A text has one list of sentences and one ending.
 pub fn tokenisation_is_unique()
@@ -22,4 +22,9 @@ pub fn program_is_unique()
     ensures program { WritesOneProgram }
     ensures limit { PassesOneLimit }
     ensures either { WritesOrPasses }
+{}
+
+/// Words ask for at most one command.
+pub fn command_is_unique()
+    ensures { HasOneCommand }
 {}

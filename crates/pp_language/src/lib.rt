@@ -12,9 +12,10 @@ mod token;
 mod which;
 
 pub use command::{Command, CommandKind, Settings};
-pub use examples::worked_examples;
+pub use examples::{worked_commands, worked_examples};
 pub use laws::{
-    first_fault_is_unique, program_is_unique, statement_is_unique, tokenisation_is_unique,
+    command_is_unique, first_fault_is_unique, program_is_unique, statement_is_unique,
+    tokenisation_is_unique,
 };
 pub use limits::{
     AHEAD_LIMIT, ARITY_LIMIT, CLAUSE_LIMIT, CLAUSE_VARIABLE_LIMIT, DEFAULT_AHEAD, DEFAULT_DEPTH,
