@@ -26,7 +26,7 @@ module _ {A : Type 0} (P : A → Type 0) where
   all_second (x ∷ xs) ys h = all_second xs ys (All-tail P x (xs ++ ys) h)
 
 -- all of a list are among its first ones
-is_in : {A : Type 0} (xs : List A) (k : ℕ) (d : A) → k < length xs → IsIn (get_or xs k d) xs
+pub is_in : {A : Type 0} (xs : List A) (k : ℕ) (d : A) → k < length xs → IsIn (get_or xs k d) xs
 is_in [] k d l = absurd (omega arith)
 is_in (x ∷ xs) zero d l = inl refl
 is_in (x ∷ xs) (suc k) d l = inr (is_in xs k d (omega arith))

@@ -35,6 +35,7 @@ pub mod MadeQuery
 pub mod PartTexts
 pub mod MadeStatements
 pub mod WellMade
+pub mod Counted
 pub mod MadeClauses
 pub mod MadeQueries
 pub mod Ready

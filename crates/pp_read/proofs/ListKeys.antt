@@ -35,7 +35,7 @@ module _ (names : List Text) where
       ∙ ap (λ ks. blank_keys n (blanks_all ps) ++ ks) (lists_blank (n + blanks_all ps) pss)
       ∙ blank_keys-append n (blanks_all ps) (list_blanks pss)
 
-  lists_same : (n : ℕ) (pss : List Phrases) → list_keys names n pss ≡ list_keys [] n pss
+  pub lists_same : (n : ℕ) (pss : List Phrases) → list_keys names n pss ≡ list_keys [] n pss
   lists_same n [] = refl
   lists_same n (ps ∷ pss) = ap (λ ks. ks ++ list_keys names (n + blanks_all ps) pss) (all_same names n ps) ∙ ap (λ ks. variables_all (keyed_all [] n ps) ++ ks) (lists_same (n + blanks_all ps) pss)
 

@@ -1,9 +1,10 @@
 -- The clause that the code makes is the one that the statement writes, and it is well formed.
 use Rattle.std.proofs.Common.{◌≡◌, ℕ, ◌+◌, true, ◌&&◌, List, [], ◌∷◌, length, map, refl, ap, sym, ◌∙◌, subst, arith}
-use Rattle.std.specs.Prelude.{All, Bool, false}
+use Rattle.std.specs.Prelude.{All, Bool, false, nat_eq}
 use Rattle.std.specs.List.{list_all, list_any}
 use Rattle.std.proofs.lemmas.Bool.{and_parts, and_from}
 use Rattle.std.proofs.lemmas.List.Elements.{All-head, All-tail}
+use Rattle.pp_algebra.specs.Canon.{firsts}
 use Rattle.pp_algebra.specs.Least.{arguments}
 use Rattle.pp_sld.specs.Goals as goals
 use Rattle.pp_language.specs.Texts.{Text}
@@ -22,6 +23,7 @@ use Rattle.pp_read.specs.Terms.{terms_of}
 use Rattle.pp_read.specs.Pieces.{tree_at, predicate_of_tree}
 use Rattle.pp_read.specs.Values.{goal_from}
 use Rattle.pp_read.specs.Passed.{is_wide}
+use Rattle.pp_read.specs.Sizes.{variables_of, IsCounted}
 use Rattle.pp_read.specs.Sentences.{IsKnown}
 use Rattle.pp_read.specs.Layouts.{IsBodyEntry, AreEntries}
 use Rattle.pp_read.proofs.KnownTexts.{Known, firsts_known}
@@ -30,6 +32,7 @@ use Rattle.pp_read.proofs.PhraseTerms.{spelled_all}
 use Rattle.pp_read.proofs.PartsAt.{parts_wide, good_all}
 use Rattle.pp_read.proofs.ReadingLeaves.{terms-count}
 use Rattle.pp_read.proofs.MadeStatements.{clause_lists, head_saying, clause_keys, clause_named, clause_counted, ClauseMade, clause_made, make_pair, make_clause, clause_is}
+use Rattle.pp_read.proofs.Counted.{variables_counted}
 use Rattle.pp_read.proofs.WellMade.{Below, lists_below, call_made, goals_made}
 
 pub saying_arguments : (p : Phrase) → is_saying p ≡ true → are_phrases (said_arguments p) ≡ true
@@ -70,6 +73,7 @@ module _ (names named : List Text) (count : ℕ) (ps : List Part) (p : Phrase) (
   pub record IsWritten (c : Clause) : Type 0 where
     pub value : clause_of c ≡ clause_by names p is
     pub formed : IsClause c
+    pub counted : IsCounted c
 
   pub clause_written : (es : List Entry) (c : Clause) → ClauseMade names named ps p is es → predicate_of c.pred ≡ predicate_of_tree (tree_at ps 0) → trees_of c.head ≡ arguments (tree_at ps 0) → map goal_of c.body ≡ map (goal_from names ps) es → c.vars ≡ length named + count → IsWritten c
   clause_written es c m pred head body vars =
@@ -85,6 +89,7 @@ module _ (names named : List Text) (count : ℕ) (ps : List Part) (p : Phrase) (
       let below = subst (λ v. All (Below v) (list_terms names named n (clause_lists p is))) (sym vars) clause_below in
       record {
         value = value;
+        counted = vars ∙ sym (clause_keys names named count ps p is h g k).counted ∙ sym (variables_counted names p is) ∙ ap (λ x. length (firsts nat_eq [] (variables_of x.1))) (sym value);
         formed = record {
           head = head_formed p (head_saying p h) c (pred ∙ m.pred) (head ∙ m.args) (All-head (Below c.vars) us rest below);
           body = goals_made names named c.vars c.body is (n + b) (body ∙ m.goals) (All-tail (Below c.vars) us rest below);

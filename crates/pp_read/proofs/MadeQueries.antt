@@ -1,6 +1,6 @@
 -- The query that the code makes is the one that the statement writes, it is well formed, and the limits are those that it passes.
 use Rattle.std.proofs.Common.{◌≡◌, ℕ, suc, ◌+◌, true, false, List, [], ◌∷◌, length, map, refl, ap, sym, ◌∙◌, subst, arith, None}
-use Rattle.std.specs.Prelude.{All, cond, count_by}
+use Rattle.std.specs.Prelude.{All, Bool, cond, count_by}
 use Rattle.std.specs.List.{list_all, list_any}
 use Rattle.std.proofs.Math.ListN.{length-map}
 use Rattle.std.proofs.lemmas.List.Sums.{sum_by-cons}
@@ -17,6 +17,8 @@ use Rattle.pp_language.specs.Phrases.{is_phrase, are_phrases, mark, parts_words}
 use Rattle.pp_language.specs.Statements.{QueryPhrase, asks_equal, asks_member, asks_infer, query, statement_parts, query_parts, items_parts, is_query_phrase}
 use Rattle.pp_language.specs.Meanings.{blanks_all, query_phrases, item_by, items_by, query_by, keyed_lists}
 use Rattle.pp_language.specs.Limits.{is_above, variable_count, query_too_wide, goal_count, when, passed}
+use Rattle.pp_term.specs.declared.query.Item.{Item}
+use Rattle.pp_term.specs.declared.query.Item.TheVariants as items
 use Rattle.pp_term.specs.declared.query.Query.{Query}
 use Rattle.pp_term.specs.Meanings.{item_of, query_of}
 use Rattle.pp_term.specs.WellFormed.{IsQuery}
@@ -24,6 +26,7 @@ use Rattle.pp_read.specs.declared.parts.Part.{Part}
 use Rattle.pp_read.specs.declared.items.Entry.{Entry}
 use Rattle.pp_read.specs.declared.items.Entry.TheVariants.{Call, Equate, Member, Compare, Infer}
 use Rattle.pp_read.specs.Values.{item_from, IsItemEntry}
+use Rattle.pp_read.specs.Sizes.{is_annotated}
 use Rattle.pp_read.specs.Passed.{is_wide, is_infer, query_passed}
 use Rattle.pp_read.specs.Sentences.{IsKnown}
 use Rattle.pp_read.specs.Layouts.{IsQueryEntry, AreEntries}
@@ -57,10 +60,14 @@ query_blank names x h = (query_texted names x h).blank
 
 -- ===== annotated goals
 
+abbrev is_infers : programs.QueryItem → Bool
+is_infers (programs.solves i) = false
+is_infers (programs.infers g m) = true
+
 infers_cons : (e : Entry) (es : List Entry) → count_by is_infer (e ∷ es) ≡ cond (is_infer e) 1 0 + count_by is_infer es
 infers_cons e es = sum_by-cons (λ x. cond (is_infer x) 1 0) e es
 
-infers_counted : (i : ℕ) (is : List QueryPhrase) (es : List Entry) → AreEntries query_parts IsQueryEntry i is es → count_by is_infer es ≡ goal_count is
+pub infers_counted : (i : ℕ) (is : List QueryPhrase) (es : List Entry) → AreEntries query_parts IsQueryEntry i is es → count_by is_infer es ≡ goal_count is
 infers_counted i [] [] s = refl
 infers_counted i [] (e ∷ es) s = absurd s
 infers_counted i (x ∷ is) [] s = absurd s
@@ -79,6 +86,32 @@ infers_counted i (asks_infer p m ∷ is) (Call a ∷ es) s = absurd s.0
 infers_counted i (asks_infer p m ∷ is) (Equate a b ∷ es) s = absurd s.0
 infers_counted i (asks_infer p m ∷ is) (Member a d ∷ es) s = absurd s.0
 infers_counted i (asks_infer p m ∷ is) (Compare r a b ∷ es) s = absurd s.0
+
+-- of items with these values
+annotated : (names : List Text) (gs : List Item) (is : List QueryPhrase) (tss : List (Trees ℕ)) → map item_of gs ≡ items_by names is tss → length is ≡ length tss → count_by is_annotated gs ≡ goal_count is
+annotated names [] [] tss e l = refl
+annotated names [] (x ∷ is) [] e l = absurd (omega arith)
+annotated names [] (x ∷ is) (ts ∷ tss) e l = absurd (cc)
+annotated names (g ∷ gs) [] tss e l = absurd (cc)
+annotated names (g ∷ gs) (x ∷ is) [] e l = absurd (omega arith)
+annotated names (g ∷ gs) (x ∷ is) (ts ∷ tss) e l =
+    let one : item_of g ≡ item_by names x ts = cc in
+    let rest : map item_of gs ≡ items_by names is tss = cc in
+    sum_by-cons (λ y. cond (is_annotated y) 1 0) g gs ∙ ap (λ b. cond b 1 0 + count_by is_annotated gs) (kind g ∙ ap is_infers one) ∙ ap (λ n. cond (is_infers (item_by names x ts)) 1 0 + n) (annotated names gs is tss rest (omega arith)) ∙ last x
+  where
+    kind : (i : Item) → is_annotated i ≡ is_infers (item_of i)
+    kind (items.Equate a b) = refl
+    kind (items.Member t d) = refl
+    kind (items.Infer s us m) = refl
+
+    last : (y : QueryPhrase) → cond (is_infers (item_by names y ts)) 1 0 + goal_count is ≡ goal_count (y ∷ is)
+    last (asks_equal p q) = omega arith
+    last (asks_member p s) = omega arith
+    last (asks_infer p m) = omega arith
+
+items_length : (names named : List Text) (n : ℕ) (is : List QueryPhrase) → length is ≡ length (list_terms names named n (map query_phrases is))
+items_length names named n [] = refl
+items_length names named n (i ∷ is) = ap suc (items_length names named (n + blanks_all (query_phrases i)) is)
 
 -- ===== a query
 
@@ -139,18 +172,20 @@ module _ (names named : List Text) (count : ℕ) (ps : List Part) (is : List Que
   pub record IsQueryWritten (q : Query) : Type 0 where
     pub value : query_of names q ≡ query_by names is
     pub formed : IsQuery q
+    pub goals : count_by is_annotated q.items ≡ goal_count is
 
   pub query_written : (es : List Entry) (q : Query) → QueryMade es → q.vars ≡ length named + count → map (name_at names) q.named ≡ named → map item_of q.items ≡ map (item_from names ps) es → IsQueryWritten q
-  query_written es q m vars texts items =
+  query_written es q m vars texts made =
       let value = ap (λ n. make_query n (map (name_at names) q.named) (map item_of q.items)) vars
       ∙ ap (λ xs. make_query (length named + count) xs (map item_of q.items)) texts
-      ∙ ap (λ is. make_query (length named + count) named is) (items ∙ m.items)
+      ∙ ap (λ is. make_query (length named + count) named is) (made ∙ m.items)
       ∙ query_is names named count is query_keys
       in
       record {
         value = value;
+        goals = annotated names q.items is (list_terms names named (length named) (map query_phrases is)) (made ∙ m.items) (items_length names named (length named) is);
         formed = record {
           named = omega (arith, length-map q.named (name_at names), ap length texts);
-          items = items_made names named q.vars q.items is (length named) (items ∙ m.items) (subst (λ v. All (Below v) (list_terms names named (length named) (map query_phrases is))) (sym vars) query_below);
+          items = items_made names named q.vars q.items is (length named) (made ∙ m.items) (subst (λ v. All (Below v) (list_terms names named (length named) (map query_phrases is))) (sym vars) query_below);
         };
       }

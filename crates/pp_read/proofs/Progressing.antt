@@ -14,16 +14,16 @@ use Rattle.pp_language.specs.Limits.{passed, clauses_behind, or_later, first_pas
 use Rattle.pp_term.specs.declared.clause.Clause as terms
 use Rattle.pp_term.specs.declared.query.Query as terms_query
 use Rattle.pp_term.specs.Meanings.{clause_of}
-use Rattle.pp_term.specs.WellFormed.{IsClause}
 use Rattle.pp_read.specs.declared.progress.Progress.{Progress}
 use Rattle.pp_read.specs.declared.sentence.Said.TheVariants.{Directive, Clause, Query, OverClause, OverQuery}
+use Rattle.pp_read.specs.Sizes.{IsReadClause}
 use Rattle.pp_read.specs.Sentences.{IsMade}
 use Rattle.pp_read.specs.Progress.{IsAsked, IsProgress}
 
 -- ===== limits, one statement further
 
 -- how many clauses stand before what follows
-abbrev behind : ℕ → List Statement → ℕ
+abbrev pub behind : ℕ → List Statement → ℕ
 behind n [] = n
 behind n (s ∷ ss) = behind (clauses_behind n s) ss
 
@@ -39,7 +39,7 @@ first_passed-push : (n : ℕ) (ss : List Statement) (s : Statement) → first_pa
 first_passed-push n [] s = or_none (passed n s)
 first_passed-push n (t ∷ ss) s = ap (or_later (passed n t)) (first_passed-push (clauses_behind n t) ss s) ∙ sym (or_later-or_later (passed n t) (first_passed (clauses_behind n t) ss) (passed (behind (clauses_behind n t) ss) s))
 
-clauses-counted : (names : List Text) (n : ℕ) (ss : List Statement) → behind n ss ≡ n + length (clauses_by names ss)
+pub clauses-counted : (names : List Text) (n : ℕ) (ss : List Statement) → behind n ss ≡ n + length (clauses_by names ss)
 clauses-counted names n [] = omega arith
 clauses-counted names n (directive w ∷ ss) = clauses-counted names n ss
 clauses-counted names n (clause p is ∷ ss) = omega (arith, clauses-counted names (suc n) ss)
@@ -69,10 +69,6 @@ any-push ss s h = list_any-append is_query ss (s ∷ []) ∙ ap (λ b. b || (is_
     last : (b : Bool) → (b || false) ≡ b
     last true = refl
     last false = refl
-
-first_none : (a b : Option Which) → or_later a b ≡ None → a ≡ None
-first_none None b h = refl
-first_none (Some w) b h = absurd (cc)
 
 -- ===== progress
 
@@ -125,7 +121,7 @@ module _ (names : List Text) (ss : List Statement) (p : Progress) (h : IsProgres
         clauses = λ e.
             ap (map clause_of) a ∙ map-append clause_of p.clauses.items (c ∷ []) ∙ ap (λ cs. cs ++ clause_of c ∷ []) (h.clauses (sym f ∙ e)) ∙ ap (λ v. clauses_by names ss ++ v ∷ []) m.1 ∙ sym (clauses-push names ss s);
         query = λ e. subst (IsAsked names (ss ++ s ∷ [])) (sym b) (same_asked names ss s p h q p.query refl refl (h.query (sym f ∙ e)));
-        formed = subst (All IsClause) (sym a) (All-push IsClause p.clauses.items c h.formed m.2);
+        formed = subst (All IsReadClause) (sym a) (All-push IsReadClause p.clauses.items c h.formed m.2);
       }
 
   pub after_query : (s : Statement) (x : terms_query.Query) (r : Progress) → IsMade names (length p.clauses.items) s (Query x) → r.clauses.items ≡ p.clauses.items → r.query ≡ Some x → r.asked ≡ true → r.passed ≡ p.passed → IsProgress names (ss ++ s ∷ []) r
@@ -138,7 +134,7 @@ module _ (names : List Text) (ss : List Statement) (p : Progress) (h : IsProgres
         asked = d ∙ sym (any-push ss s q);
         clauses = λ e. ap (map clause_of) a ∙ h.clauses (sym f ∙ e) ∙ sym (append-nil (clauses_by names ss)) ∙ sym (clauses-push names ss s);
         query = λ e. subst (IsAsked names (ss ++ s ∷ [])) (sym b) (m.1 ∙ ap (query_by names) (sym (asked-push ss s q)), m.2);
-        formed = subst (All IsClause) (sym a) h.formed;
+        formed = subst (All IsReadClause) (sym a) h.formed;
       }
 
   over : (s : Statement) (w : Which) (r : Progress) → passed (length p.clauses.items) s ≡ Some w → r.clauses.items ≡ p.clauses.items → r.asked ≡ is_query s → r.passed ≡ or_later p.passed (Some w) → IsProgress names (ss ++ s ∷ []) r
@@ -149,7 +145,7 @@ module _ (names : List Text) (ss : List Statement) (p : Progress) (h : IsProgres
         asked = d ∙ sym (any-push ss s q);
         clauses = λ e. absurd (some e);
         query = λ e. absurd (some e);
-        formed = subst (All IsClause) (sym a) h.formed;
+        formed = subst (All IsReadClause) (sym a) h.formed;
       }
     where
       no_none : (o : Option Which) → or_later o (Some w) ≡ None → ⊥

@@ -1,13 +1,13 @@
 -- What a statement writes, from what is known of its sentence.
 use Rattle.std.proofs.Common.{◌≡◌, ℕ, suc, ◌+◌, Bool, true, false, List, length, map, Option, Some, None, refl, sym, ◌∙◌, subst}
-use Rattle.std.specs.Prelude.{All, IsTrue}
+use Rattle.std.specs.Prelude.{All, IsTrue, not, ◌≤◌, nat_le, count_by}
 use Rattle.std.specs.declared.vec.Vec.{Vec}
 use Rattle.std.specs.declared.alloc.Global.{Global}
 use Rattle.std.specs.List.{list_all, list_any}
-use Rattle.std.proofs.lemmas.Bool.{and_parts}
+use Rattle.std.proofs.lemmas.Bool.{and_parts, leb-true}
 use Rattle.pp_algebra.specs.Least.{arguments}
 use Rattle.pp_language.specs.declared.which.Which.{Which}
-use Rattle.pp_language.specs.declared.which.Which.TheVariants.{Clauses, Arity}
+use Rattle.pp_language.specs.declared.which.Which.TheVariants.{Clauses, Arity, Variables, Goals}
 use Rattle.pp_language.specs.Texts.{Text}
 use Rattle.pp_language.specs.Printing.{name_at}
 use Rattle.pp_language.specs.Phrases.{Phrase}
@@ -24,12 +24,13 @@ use Rattle.pp_read.specs.declared.statement.Layout.TheVariants as layouts
 use Rattle.pp_read.specs.declared.sentence.Said.TheVariants.{Directive, Clause, Query, OverClause, OverQuery}
 use Rattle.pp_read.specs.Pieces.{tree_at, predicate_of_tree}
 use Rattle.pp_read.specs.Values.{goal_from, item_from, HasSayingAt, IsGoalEntry, IsItemEntry}
-use Rattle.pp_read.specs.Passed.{is_wide, clause_passed, query_passed}
+use Rattle.pp_read.specs.Sizes.{is_annotated}
+use Rattle.pp_read.specs.Passed.{is_wide, is_infer, clause_passed, query_passed}
 use Rattle.pp_read.specs.Layouts.{IsBodyEntry, IsQueryEntry, AreEntries, IsLayout}
 use Rattle.pp_read.specs.Sentences.{IsKnown, IsReady, IsMade}
 use Rattle.pp_read.proofs.MadeStatements.{clause_limit_is}
 use Rattle.pp_read.proofs.MadeClauses.{clause_parts, clause_written}
-use Rattle.pp_read.proofs.MadeQueries.{query_limit_is, query_parts_made, query_written}
+use Rattle.pp_read.proofs.MadeQueries.{infers_counted, query_limit_is, query_parts_made, query_written}
 
 -- where no limit is passed, no atom is too wide
 narrow : (b : Bool) (later : Option Which) → when b Arity later ≡ None → b ≡ false
@@ -42,6 +43,28 @@ narrow_second false b later h = narrow b later h
 
 clause_narrow : (n : ℕ) (ps : List Part) (v : ℕ) → clause_passed n ps v ≡ None → list_any is_wide ps ≡ false
 clause_narrow n ps v h = narrow_second (is_above 65535 (suc n)) (list_any is_wide ps) _ h
+
+clause_few : (n : ℕ) (ps : List Part) (v : ℕ) → clause_passed n ps v ≡ None → v ≤ 255
+clause_few n ps v h = go (is_above 65535 (suc n)) (list_any is_wide ps) (nat_le v 255) h (leb-true v 255)
+  where
+    go : (a b c : Bool) → when a Clauses (when b Arity (when (not c) Variables None)) ≡ None → (c ≡ true → v ≤ 255) → v ≤ 255
+    go true b c e f = absurd (cc)
+    go false true c e f = absurd (cc)
+    go false false false e f = absurd (cc)
+    go false false true e f = f refl
+
+pub record AreFew (v : ℕ) (es : List Entry) : Type 0 where
+  pub variables : v ≤ 10000
+  pub goals : count_by is_infer es ≤ 1000
+
+query_few : (ps : List Part) (v : ℕ) (es : List Entry) → query_passed ps v es ≡ None → AreFew v es
+query_few ps v es h = go (list_any is_wide ps) (nat_le v 10000) (nat_le (count_by is_infer es) 1000) h (leb-true v 10000) (leb-true (count_by is_infer es) 1000)
+  where
+    go : (a b c : Bool) → when a Arity (when (not b) Variables (when (not c) Goals None)) ≡ None → (b ≡ true → v ≤ 10000) → (c ≡ true → count_by is_infer es ≤ 1000) → AreFew v es
+    go true b c e f g = absurd (cc)
+    go false false c e f g = absurd (cc)
+    go false true false e f g = absurd (cc)
+    go false true true e f g = record { variables = f refl; goals = g refl }
 
 query_narrow : (ps : List Part) (v : ℕ) (es : List Entry) → query_passed ps v es ≡ None → list_any is_wide ps ≡ false
 query_narrow ps v es h = narrow (list_any is_wide ps) _ h
@@ -79,7 +102,8 @@ module _ (names named : List Text) (count : ℕ) (ps : List Part) where
       let m = clause_parts names named count ps k.head k.items k.is_headed k.are_items k.known l.items (clause_narrow n ps (length named + count) (sym h)) k.entries in
       let w = clause_written names named count ps k.head k.items k.is_headed k.are_items k.known l.items c m pred head body vars in
       let p : passed n (clause k.head k.items) ≡ None = sym (clause_limit_is names named count ps k.head k.items k.is_headed k.are_items k.known n) ∙ sym h in
-      subst (λ s. IsMade names n s (Clause c)) (sym k.same) (p, w.value, w.formed)
+      let few : c.vars ≤ 255 = subst (λ v. v ≤ 255) (sym vars) (clause_few n ps (length named + count) (sym h)) in
+      subst (λ s. IsMade names n s (Clause c)) (sym k.same) (p, w.value, record { formed = w.formed; counted = w.counted; few_variables = few })
 
   pub clause_is_over : (y : Layout) (l : Vec Entry Global) (n : ℕ) → y ≡ layouts.Clause l → (r : IsReady names named count ps y) (w : Which) → Some w ≡ clause_passed n ps (length named + count) → IsMade names n r.statement (OverClause w)
   clause_is_over y l n z r w h =
@@ -115,7 +139,10 @@ module _ (names named : List Text) (count : ℕ) (ps : List Part) where
       let m = query_parts_made names named count ps k.items k.are_items k.known l.items (query_narrow ps (length named + count) l.items (sym h)) k.entries in
       let w = query_written names named count ps k.items k.are_items k.known l.items q m vars texts items in
       let p : passed n (query k.items) ≡ None = sym (query_limit_is names named count ps k.items k.are_items k.known n l.items k.entries) ∙ sym h in
-      subst (λ s. IsMade names n s (Query q)) (sym k.same) (p, w.value, w.formed)
+      let f = query_few ps (length named + count) l.items (sym h) in
+      let goals : count_by is_annotated q.items ≤ 1000 = subst (λ v. v ≤ 1000) (infers_counted 1 k.items l.items k.entries ∙ sym w.goals) f.goals in
+      let variables : q.vars ≤ 10000 = subst (λ v. v ≤ 10000) (sym vars) f.variables in
+      subst (λ s. IsMade names n s (Query q)) (sym k.same) (p, w.value, record { formed = w.formed; few_variables = variables; few_goals = goals })
 
   pub query_is_over : (y : Layout) (l : Vec Entry Global) (n : ℕ) → y ≡ layouts.Query l → (r : IsReady names named count ps y) (w : Which) → Some w ≡ query_passed ps (length named + count) l.items → IsMade names n r.statement (OverQuery w)
   query_is_over y l n z r w h =

@@ -1,8 +1,9 @@
 -- A whole text: its sentences are few, its names are known, and what is read of it is what it writes.
-use Rattle.std.proofs.Common.{◌≡◌, ℕ, zero, suc, ◌+◌, ◌<◌, ◌≤◌, true, false, List, [], ◌∷◌, ◌++◌, length, map, take, get_or, Some, None, refl, ap, sym, ◌∙◌, subst, arith, length-append}
-use Rattle.std.specs.Prelude.{All}
+use Rattle.std.proofs.Common.{◌≡◌, ℕ, zero, suc, ◌+◌, ◌<◌, ◌≤◌, true, false, List, [], ◌∷◌, ◌++◌, length, map, take, get_or, Bool, Option, Some, None, ◌||◌, refl, ap, sym, ◌∙◌, subst, arith, length-append}
+use Rattle.std.specs.Prelude.{All, not, nat_le}
 use Rattle.std.specs.List.{flat_map, list_any}
 use Rattle.std.proofs.Math.ListN.{length-map}
+use Rattle.std.proofs.lemmas.Bool.{leb-true}
 use Rattle.std.proofs.lemmas.Grind.{flat_map-append}
 use Rattle.std.proofs.lemmas.List.Elements.{All-nil, All-cons, All-head, All-tail, All-weaker}
 use Rattle.pp_algebra.specs.Canon.{firsts}
@@ -13,10 +14,12 @@ use Rattle.pp_language.specs.Texts.{Text, same_text}
 use Rattle.pp_language.specs.Tokens.{AreTokensOf}
 use Rattle.pp_language.specs.Sentences.{Ending, clean, FallInto, AreSentences}
 use Rattle.pp_language.specs.Programs.{Query as Asked, Written}
-use Rattle.pp_language.specs.Statements.{Statement, statement_words, is_query}
+use Rattle.pp_language.specs.declared.which.Which.TheVariants.{Clauses, Arity, Variables}
+use Rattle.pp_language.specs.Phrases.{Phrase}
+use Rattle.pp_language.specs.Statements.{BodyItem, Statement, directive, clause, query, statement_words, is_query}
 use Rattle.pp_language.specs.Faults.{AllSay, IsInGrammar, sentence_words}
-use Rattle.pp_language.specs.Meanings.{texts_by, text_names, clauses_by, query_by, asked_by}
-use Rattle.pp_language.specs.Limits.{Writes, Passes}
+use Rattle.pp_language.specs.Meanings.{said_arguments, body_phrases, texts_by, text_names, clauses_by, query_by, asked_by}
+use Rattle.pp_language.specs.Limits.{Writes, Passes, is_above, is_too_wide, body_too_wide, variable_count, when, passed, or_later, first_passed}
 use Rattle.pp_term.specs.Meanings.{clause_of, query_of}
 use Rattle.pp_term.specs.declared.query.Query.{Query}
 use Rattle.pp_lex.specs.declared.lists.Sentence.{Sentence}
@@ -24,10 +27,12 @@ use Rattle.pp_lex.specs.Readings.{tokens_of}
 use Rattle.pp_read.specs.declared.progress.Progress.{Progress}
 use Rattle.pp_read.specs.declared.program.Program.{Program}
 use Rattle.pp_read.specs.Words.{words_of, texts_in}
+use Rattle.pp_read.specs.Sizes.{IsReadQuery}
 use Rattle.pp_read.specs.Progress.{IsAsked}
 use Rattle.pp_read.specs.Programs.{written_of, list_words, AreAllRead}
 use Rattle.pp_read.proofs.KnownTexts.{Known, all_first, all_second, firsts_known}
 use Rattle.pp_read.proofs.TokenWords.{all_words}
+use Rattle.pp_read.proofs.Progressing.{behind, clauses-counted}
 use Rattle.pp_read.proofs.FirstFaults.{ends_in_query}
 
 -- ===== sizes
@@ -108,6 +113,27 @@ list_length text list = length-map list (λ s. words_of text s.tokens)
 abbrev make : List Text → List (Predicate × Clause) → Asked → Written
 make xs cs q = record { names = xs; clauses = cs; query = q }
 
+-- ===== the number of clauses
+
+within_clauses : (n : ℕ) (p : Phrase) (is : List BodyItem) (later : Option Which) → or_later (passed n (clause p is)) later ≡ None → suc n ≤ 65535
+within_clauses n p is later h = go (nat_le (suc n) 65535) (is_too_wide p || list_any body_too_wide is) (is_above 255 (variable_count (said_arguments p ∷ map body_phrases is))) h (leb-true (suc n) 65535)
+  where
+    go : (a b c : Bool) → or_later (when (not a) Clauses (when b Arity (when c Variables None))) later ≡ None → (a ≡ true → suc n ≤ 65535) → suc n ≤ 65535
+    go true b c e f = f refl
+    go false b c e f = absurd (cc)
+
+later_passed : (a b : Option Which) → or_later a b ≡ None → b ≡ None
+later_passed None b h = h
+later_passed (Some w) b h = absurd (cc)
+
+behind_few : (n : ℕ) (ss : List Statement) → n ≤ 65535 → first_passed n ss ≡ None → behind n ss ≤ 65535
+behind_few n [] l h = l
+behind_few n (directive w ∷ ss) l h = behind_few n ss l h
+behind_few n (clause p is ∷ ss) l h =
+    let later = first_passed (suc n) ss in
+    behind_few (suc n) ss (within_clauses n p is later h) (later_passed (passed n (clause p is)) later h)
+behind_few n (query is ∷ ss) l h = behind_few n ss l (later_passed (passed n (query is)) (first_passed n ss) h)
+
 -- ===== the text
 
 module _ (text : Text) (list : List Sentence) (names : List Text) (p : Progress) (n : names ≡ firsts same_text [] (texts_in (all_words text list))) (r : AreAllRead names (list_words text list) p) where
@@ -131,6 +157,19 @@ module _ (text : Text) (list : List Sentence) (names : List Text) (p : Progress)
       let f : list_any is_query r.statements ≡ false = subst (IsAsked names r.statements) o (r.progress.query e) in
       let g : list_any is_query r.statements ≡ true = sym r.progress.asked ∙ a in
       cc (f, g)
+
+  -- of a text that passes no limit
+  pub few_clauses : p.passed ≡ None → length p.clauses.items ≤ 65535
+  few_clauses e =
+      let l = behind_few 0 r.statements (omega arith) (sym r.progress.passed ∙ e) in
+      let c = clauses-counted names 0 r.statements in
+      let n : length p.clauses.items ≡ length (clauses_by names r.statements) = sym (length-map p.clauses.items clause_of) ∙ ap length (r.progress.clauses e) in
+      omega arith
+
+  pub read_query : p.passed ≡ None → (q : Query) → p.query ≡ Some q → IsReadQuery q
+  read_query e q o =
+      let asked : IsAsked names r.statements (Some q) = subst (IsAsked names r.statements) o (r.progress.query e) in
+      asked.1
 
   pub writes : AreSentences text (tokens_of list) clean → p.asked ≡ true → p.passed ≡ None → (q : Query) → p.query ≡ Some q → (g : Program) → g.names ≡ names → g.clauses ≡ p.clauses.items → g.query ≡ q → Writes text (written_of g)
   writes s a e q o g b d f =

@@ -12,6 +12,7 @@ pub mod Items
 pub mod Layouts
 pub mod Values
 pub mod Passed
+pub mod Sizes
 pub mod Sentences
 pub mod Progress
 pub mod Programs

@@ -11,7 +11,6 @@ use Rattle.pp_language.specs.Statements.{Statement, directive, clause, query, st
 use Rattle.pp_language.specs.Meanings.{clause_by, query_by}
 use Rattle.pp_language.specs.Limits.{passed}
 use Rattle.pp_term.specs.Meanings.{clause_of, query_of}
-use Rattle.pp_term.specs.WellFormed.{IsClause, IsQuery}
 use Rattle.pp_read.specs.declared.parts.Part.{Part}
 use Rattle.pp_read.specs.declared.statement.Layout.{Layout}
 use Rattle.pp_read.specs.declared.sentence.Said.{Said}
@@ -19,6 +18,7 @@ use Rattle.pp_read.specs.declared.sentence.Said.TheVariants.{Directive, Clause, 
 use Rattle.pp_read.specs.Words.{texts_in, named_in, blanks_in}
 use Rattle.pp_read.specs.Parts.{AreParts}
 use Rattle.pp_read.specs.Layouts.{IsLayout}
+use Rattle.pp_read.specs.Sizes.{IsReadClause, IsReadQuery}
 
 -- the code's parts are these, over names that hold all atoms and over the sentence's variables
 pub record IsKnown (names named : List Text) (count : ℕ) (qs : List phrases.Part) (ps : List Part) : Type 0 where
@@ -39,8 +39,8 @@ pub record IsReady (names named : List Text) (count : ℕ) (ps : List Part) (l :
 -- what a statement writes, with n clauses before it, or the first limit that it passes
 abbrev pub IsMade : List Text → ℕ → Statement → Said → Type 0
 IsMade names n (directive w) Directive = Unit {0}
-IsMade names n (clause p is) (Clause c) = (passed n (clause p is) ≡ None) × (clause_of c ≡ clause_by names p is) × IsClause c
-IsMade names n (query is) (Query q) = (passed n (query is) ≡ None) × (query_of names q ≡ query_by names is) × IsQuery q
+IsMade names n (clause p is) (Clause c) = (passed n (clause p is) ≡ None) × (clause_of c ≡ clause_by names p is) × IsReadClause c
+IsMade names n (query is) (Query q) = (passed n (query is) ≡ None) × (query_of names q ≡ query_by names is) × IsReadQuery q
 IsMade names n (clause p is) (OverClause w) = passed n (clause p is) ≡ Some w
 IsMade names n (query is) (OverQuery w) = passed n (query is) ≡ Some w
 IsMade names n s r = ⊥

@@ -24,5 +24,6 @@ mod whole;
 mod written;
 
 pub use fault::ReadFault;
-pub use program::{Clauses, Program};
+pub use pp_language::Which;
+pub use program::{ClauseList, Program};
 pub use whole::read;

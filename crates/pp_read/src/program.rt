@@ -7,11 +7,11 @@ use std::marker::Model;
 
 /// The clauses of a text, in order. A contract sees them as their list.
 #[derive(Debug, Drop)]
-pub struct Clauses {
+pub struct ClauseList {
     clauses: Vec<Clause>,
 }
 
-impl Model for Clauses {
+impl Model for ClauseList {
     ghost use Rattle.std.specs.Prelude.{List};
     ghost use Rattle.std.specs.Coded.{codes};
     ghost use Rattle.pp_term.specs.declared.clause.Clause.{Clause};
@@ -25,12 +25,12 @@ impl Model for Clauses {
     ghost view = { λ s. s.clauses.items };
 }
 
-impl Clauses {
+impl ClauseList {
     /// The clauses of a vector.
-    pub fn from_vec(clauses: Vec<Clause>) -> Clauses
+    pub fn from_vec(clauses: Vec<Clause>) -> ClauseList
         ensures { result ≡ clauses.items }
     {
-        Clauses { clauses }
+        ClauseList { clauses }
     }
 
     /// The clauses.
@@ -48,14 +48,14 @@ impl Clauses {
     }
 
     /// A copy.
-    pub fn copy(&self) -> Result<Clauses, AllocError>
+    pub fn copy(&self) -> Result<ClauseList, AllocError>
         ensures { IfOk result (λ clauses. clauses ≡ self.now) }
     {
         let mut clauses = Vec::with_capacity(*self.clauses.allocator(), self.clauses.len())?;
         for clause in &self.clauses {
             clauses.push(clause.copy()?)?;
         }
-        Ok(Clauses { clauses })
+        Ok(ClauseList { clauses })
     }
 }
 
@@ -63,7 +63,7 @@ impl Clauses {
 #[derive(Debug, Drop)]
 pub struct Program {
     pub names: Names,
-    pub clauses: Clauses,
+    pub clauses: ClauseList,
     pub query: Query,
 }
 

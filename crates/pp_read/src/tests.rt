@@ -3,7 +3,7 @@ mod contents;
 mod faults;
 mod limits;
 
-use crate::{Clauses, Program, ReadFault, read};
+use crate::{ClauseList, Program, ReadFault, read};
 use pp_term::{Cell, Pred, Terms};
 use std::alloc::{AllocError, Global};
 use std::process::Abort;
@@ -66,7 +66,7 @@ fn a_copy_equals_its_original(rt: HostRuntime) -> Result<(), Fail> {
     assert_eq!(rt; copy.names.len(), program.names.len());
     assert_eq!(rt; copy.query.items.as_slice().len(), 1);
     assert_eq!(rt; copy.query.named.as_slice(), program.query.named.as_slice());
-    let clauses = Clauses::from_vec(copy.clauses.copy()?.into_vec());
+    let clauses = ClauseList::from_vec(copy.clauses.copy()?.into_vec());
     let [clause] = clauses.as_slice() else {
         return Err(Fail::new("another number of clauses"));
     };

@@ -1,16 +1,17 @@
 //! Reads a text.
-ghost use Rattle.std.specs.Prelude.{◌≡◌, ◌≤◌, ◌<◌, ◌^◌, All, IfOk, IfErr, IsTrue, length};
+ghost use Rattle.std.specs.Prelude.{◌≡◌, ◌≤◌, ◌<◌, ◌^◌, All, IfOk, IfErr, IsTrue, length, count_by};
 ghost use Rattle.pp_algebra.specs.Canon.{has};
 ghost use Rattle.pp_language.specs.Texts.{same_text};
 ghost use Rattle.pp_language.specs.Tokens.{IsTokenOf};
 ghost use Rattle.pp_language.specs.Limits.{Writes};
 ghost use Rattle.pp_term.specs.WellFormed.{IsClause, IsQuery};
 ghost use Rattle.pp_read.specs.Words.{texts_in};
+ghost use Rattle.pp_read.specs.Sizes.{IsCounted, is_annotated};
 ghost use Rattle.pp_read.specs.Programs.{written_of, IsFaultOf, list_words, AreAllRead, IsEarlyFault};
 
 use crate::fault::ReadFault;
 use crate::names::intern_names;
-use crate::program::{Clauses, Program};
+use crate::program::{ClauseList, Program};
 use crate::progress::Progress;
 use crate::sentence::read_sentence;
 use pp_lex::{Sentence, Tail, sentences};
@@ -50,7 +51,12 @@ pub fn read(alloc: Global, text: &[u8]) -> Result<Program, ReadFault>
     requires { length text.now ≤ 4194304 }
     ensures written { IfOk result (λ p. Writes text.now (written_of p)) }
     ensures clauses { IfOk result (λ p. All IsClause p.clauses) }
+    ensures counted { IfOk result (λ p. All IsCounted p.clauses) }
+    ensures few_variables { IfOk result (λ p. All (λ c. c.vars ≤ 255) p.clauses) }
+    ensures few_clauses { IfOk result (λ p. length p.clauses ≤ 65535) }
     ensures query { IfOk result (λ p. IsQuery p.query) }
+    ensures query_variables { IfOk result (λ p. p.query.vars ≤ 10000) }
+    ensures query_goals { IfOk result (λ p. count_by is_annotated p.query.items ≤ 1000) }
     ensures fault { IfErr result (IsFaultOf text.now) }
 {
     let found = sentences(alloc, text)?;
@@ -71,7 +77,7 @@ pub fn read(alloc: Global, text: &[u8]) -> Result<Program, ReadFault>
     let Some(query) = query else { unreachable!() };
     Ok(Program {
         names,
-        clauses: Clauses::from_vec(clauses),
+        clauses: ClauseList::from_vec(clauses),
         query,
     })
 }

@@ -56,7 +56,7 @@ fn at_most_255_arguments(rt: HostRuntime) -> Result<(), Fail> {
 #[test]
 fn at_most_65535_clauses(rt: HostRuntime) -> Result<(), Fail> {
     let alloc = rt.alloc();
-    let which = Which::Clauses;
+    let which = Which::ClauseList;
     expect_limit(&rt, alloc, b"", b"a. ", 65_535, b"?- a infers most.", which)?;
     expect_limit(
         &rt,
@@ -190,7 +190,7 @@ fn the_first_sentence_that_passes_a_limit_decides(rt: HostRuntime) -> Result<(),
         &rt,
         alloc,
         &[(b"a.", 65_536), (b"p(a", 1), wide, (b"). ?- X = 1.", 1)],
-        Which::Clauses,
+        Which::ClauseList,
     )?;
     expect_first(
         &rt,
@@ -224,7 +224,7 @@ fn within_a_sentence_the_limits_have_an_order(rt: HostRuntime) -> Result<(), Fai
             full,
             (b". ?- X = 1.", 1),
         ],
-        Which::Clauses,
+        Which::ClauseList,
     )?;
     expect_first(
         &rt,

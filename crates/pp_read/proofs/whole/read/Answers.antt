@@ -1,9 +1,9 @@
-use Rattle.std.proofs.Common.{◌≡◌, false, refl, sym, subst, arith, inl, inr, ⊎_elim}
+use Rattle.std.proofs.Common.{◌≡◌, ◌≤◌, length, false, refl, sym, subst, arith, inl, inr, ⊎_elim}
 use Rattle.pp_language.specs.Sentences.{clean, AreSentences}
 use Rattle.std.specs.Prelude.{◌⊎◌}
 use Rattle.std.proofs.lemmas.Result.{err_from_is_err_and}
 use Rattle.pp_lex.specs.Readings.{tokens_of, ending_of}
-use Rattle.pp_read.proofs.WholeTexts.{names_known, passes, writes}
+use Rattle.pp_read.proofs.WholeTexts.{names_known, passes, few_clauses, writes}
 use Rattle.pp_read.proofs.WholeFaults.{sentences_short, sentences_few, early_fault, late_fault, tail_differs, tail_is_clean}
 use Rattle.pp_read.proofs.whole.read.Goals as goal
 
@@ -74,3 +74,8 @@ returns-clause-written c =
     let exact = subst (λ l. AreSentences text (tokens_of l) (ending_of tail)) (sym c.as_slice-list.ensures) c.in_ok-found.ensures.exact in
     let whole = subst (AreSentences text (tokens_of c.as_slice-list.result.now)) (tail_is_clean tail c.ne.result c.ne.ensures c.if-ne.false) exact in
     writes text c.as_slice-list.result.now c.in_ok-names.names c.in_ok-clauses.field-0 c.in_ok-names.ensures c.in_ok-clauses.ensures.read whole c.if-not-asked.false c.in_default.is c.in-Some-query.query c.in-Some-query.is _ refl c.from_vec.ensures refl
+
+pub returns-clause-few_clauses : goal.returns-clause-few_clauses
+returns-clause-few_clauses c =
+    let few = few_clauses c.args.text.now c.as_slice-list.result.now c.in_ok-names.names c.in_ok-clauses.field-0 c.in_ok-names.ensures c.in_ok-clauses.ensures.read c.in_default.is in
+    subst (λ xs. length xs ≤ 65535) (sym c.from_vec.ensures) few
