@@ -16,3 +16,4 @@ pub mod StatementParts
 pub mod CommandsRead
 pub mod CommandsMade
 pub mod CommandExamples
+pub mod GeneratorExamples

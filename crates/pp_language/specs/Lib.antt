@@ -18,3 +18,6 @@ pub mod Meanings
 pub mod Limits
 pub mod PartsOf
 pub mod CommandExamples
+pub mod Generator
+pub mod Told
+pub mod GeneratorExamples

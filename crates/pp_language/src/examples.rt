@@ -1,6 +1,7 @@
-//! Worked examples of what is printed, and of words.
+//! Worked examples: theorems that compute.
 ghost use Rattle.pp_language.specs.Examples.{AdjacentIntegersJoin, SpacedAtomIsQuoted, QuoteIsDoubled, InfersIsQuoted, PlainAtomIsPlain, CompoundIsWritten, RangesFollowColumns, NoLine, UsageLine};
 ghost use Rattle.pp_language.specs.CommandExamples.{AloneIsPlain, BothSpellings, ZerosMayLead, NumberStandsLast, TraceIsTold, OthersAreNoWords, MoreAreNoWords};
+ghost use Rattle.pp_language.specs.GeneratorExamples.{FirstNumbers, FirstAdder, LastAdder, ProgramLines, QueryOfTwo, LinesOfThree, ChangeIsTold, SummaryIsWritten, FailureIsSummed};
 
 /// How domains, atoms, terms and rows are written, and two of the fixed lines.
 pub fn worked_examples()
@@ -24,4 +25,17 @@ pub fn worked_commands()
     ensures trace_is_told { TraceIsTold }
     ensures others_are_no_words { OthersAreNoWords }
     ensures more_are_no_words { MoreAreNoWords }
+{}
+
+/// The generated text, the line of a change, and the summary of a run.
+pub fn worked_generator()
+    ensures first_numbers { FirstNumbers }
+    ensures first_adder { FirstAdder }
+    ensures last_adder { LastAdder }
+    ensures these_program_lines { ProgramLines }
+    ensures query_of_two { QueryOfTwo }
+    ensures lines_of_three { LinesOfThree }
+    ensures change_is_told { ChangeIsTold }
+    ensures summary_is_written { SummaryIsWritten }
+    ensures failure_is_summed { FailureIsSummed }
 {}

@@ -12,7 +12,7 @@ mod token;
 mod which;
 
 pub use command::{Command, CommandKind, Settings};
-pub use examples::{worked_commands, worked_examples};
+pub use examples::{worked_commands, worked_examples, worked_generator};
 pub use laws::{
     command_is_unique, first_fault_is_unique, program_is_unique, statement_is_unique,
     tokenisation_is_unique,
