@@ -1,75 +1,67 @@
--- A goal has one verdict, and a query at most one run.
-use Rattle.std.proofs.Common.{◌≡◌, ℕ, zero, suc, List, [], ◌∷◌, refl, ap, sym, ◌∙◌, subst, ◌⊎◌, inl, inr}
-use Rattle.pp_algebra.specs.Rows.{Row}
-use Rattle.pp_algebra.proofs.Law.{solved_once}
-use Rattle.pp_sld.specs.Goals.{Program, Config}
-use Rattle.pp_sld.specs.Trace.{trace}
-use Rattle.pp_sld.specs.Leaves.{call, root, answer_rows, loose_rows, HasLeaves}
-use Rattle.pp_sld.specs.Verdicts.{Verdict, fail, same, nothing, unfinished, narrow, verdict}
-use Rattle.pp_sld.proofs.Once.{once}
-use Rattle.pp_sld.proofs.Trees.{tree, tree-IsSearch}
-use Rattle.pp_language.specs.Programs.{Query}
-use Rattle.pp_propagation.specs.Stores.{Asked, face, goals_of, items_of, unknowns, Begins, BeginsNowhere}
-use Rattle.pp_propagation.specs.Turns.{HasVerdict, State}
-use Rattle.pp_propagation.specs.Runs.{Run, IsGoal, GoesOn, RunsWith, opening, no_store, IsRun}
+-- A turn, and a run from a state, are determined by the state.
+use Rattle.std.proofs.Common.{◌≡◌, ℕ, zero, suc, ◌+◌, List, [], ◌∷◌, Option, Some, None, ap, sym, ◌∙◌, subst, arith}
+use Rattle.pp_sld.specs.Goals.{Program}
+use Rattle.pp_sld.specs.Verdicts.{Verdict, HasVerdict}
+use Rattle.pp_sld.proofs.OneVerdict.{verdict_once}
+use Rattle.pp_propagation.specs.Stores.{Asked, face}
+use Rattle.pp_propagation.specs.Turns.{Commit, State, goal_at, committed, turned, Turn}
+use Rattle.pp_propagation.specs.Runs.{Run, failed, Ends, none_waits, turns_are_made, goal_fails, Turns, IsRunOn}
 
-pub leaves_once : (clauses : Program) (c : Config) (A C B D : List Row) → HasLeaves clauses c A C → HasLeaves clauses c B D → (A ≡ B) × (C ≡ D)
-leaves_once clauses c A C B D h k =
-    let e : h.tree ≡ k.tree = once clauses c h.tree k.tree h.is_tree k.is_tree in
-    (sym h.answers ∙ ap (λ t. answer_rows (trace t)) e ∙ k.answers, sym h.loose_ends ∙ ap (λ t. loose_rows (trace t)) e ∙ k.loose_ends)
+-- the same goal with the same verdict commits the same, and leads on to the same
+abbrev CommitsSame : List Asked → State → Commit → Commit → Option State → Option State → Type 0
+CommitsSame goals s c d x y = (c ≡ d) × (x ≡ y)
 
-pub has_leaves : (clauses : Program) (c : Config) → HasLeaves clauses c (answer_rows (trace (tree clauses c))) (loose_rows (trace (tree clauses c)))
-has_leaves clauses c = record { tree = tree clauses c; is_tree = tree-IsSearch clauses c; answers = refl; loose_ends = refl }
-
-pub verdict_once : (clauses : Program) (depth : ℕ) (a : Asked) (under : Row) (v w : Verdict) → HasVerdict clauses depth a under v → HasVerdict clauses depth a under w → v ≡ w
-verdict_once clauses depth a under v w h k =
-    let e = leaves_once clauses (root a.goal.shape under depth) h.answers h.loose_ends k.answers k.loose_ends h.leaves k.leaves in
-    sym h.is_verdict ∙ ap (λ x. verdict a.mode (call under) x h.loose_ends) e.0 ∙ ap (λ x. verdict a.mode (call under) k.answers x) e.1 ∙ k.is_verdict
-
-pub has_verdict : (clauses : Program) (depth : ℕ) (a : Asked) (under : Row) → (v : Verdict) × HasVerdict clauses depth a under v
-has_verdict clauses depth a under =
-    let c = root a.goal.shape under depth in (
-      verdict a.mode (call under) (answer_rows (trace (tree clauses c))) (loose_rows (trace (tree clauses c))),
-      record { answers = answer_rows (trace (tree clauses c)); loose_ends = loose_rows (trace (tree clauses c)); leaves = has_leaves clauses c; is_verdict = refl },
-    )
-
-goal_once : (goals : List Asked) (k : ℕ) (a b : Asked) → IsGoal goals k a → IsGoal goals k b → a ≡ b
-goal_once [] k a b h i = absurd h
-goal_once (g ∷ gs) zero a b h i = absurd h
-goal_once (g ∷ gs) (suc zero) a b h i = sym h ∙ i
-goal_once (g ∷ gs) (suc (suc k)) a b h i = goal_once gs (suc k) a b h i
-
-goes_once : (next : State → Run → Type 0) → ((t : State) (r q : Run) → next t r → next t q → r ≡ q) → (goals : List Asked) (k : ℕ) (ks : List ℕ) (a : Asked) (s : State) (r q : Run) (v : Verdict) → GoesOn next goals k ks a s r v → GoesOn next goals k ks a s q v → r ≡ q
-goes_once next each goals k ks a s r q fail h i = h ∙ sym i
-goes_once next each goals k ks a s r q (narrow given) h i = each _ r q h i
-goes_once next each goals k ks a s r q same h i = each _ r q h i
-goes_once next each goals k ks a s r q nothing h i = each _ r q h i
-goes_once next each goals k ks a s r q unfinished h i = each _ r q h i
+same_turn : (goals : List Asked) (s : State) (c d : Commit) (x y : Option State) (ks js : List ℕ) (k j : ℕ) (a b : Asked) (v w : Verdict)
+    → c ≡ committed s.store k a v → x ≡ turned goals ks k a v s → d ≡ committed s.store j b w → y ≡ turned goals js j b w s
+    → ks ≡ js → k ≡ j → a ≡ b → v ≡ w → CommitsSame goals s c d x y
+same_turn goals s c d x y ks js k j a b v w c1 x1 d1 y1 e f g h = (cc (c1, d1, f, g, h), cc (x1, y1, e, f, g, h))
 
 module _ (clauses : Program) (goals : List Asked) (depth : ℕ) where
-  -- with the goal and the verdict of both runs named
-  turn_once : (next : State → Run → Type 0) → ((t : State) (r q : Run) → next t r → next t q → r ≡ q) → (k : ℕ) (ks : List ℕ) (s : State) (r q : Run) (a b : Asked) (v w : Verdict) → IsGoal goals k a → IsGoal goals k b → HasVerdict clauses depth a (face s.store a.goal) v → HasVerdict clauses depth b (face s.store b.goal) w → GoesOn next goals k ks a s r v → GoesOn next goals k ks b s q w → r ≡ q
-  turn_once next each k ks s r q a b v w ia ib hv hw gv gw =
-      let e : b ≡ a = goal_once goals k b a ib ia in
-      let hw2 : HasVerdict clauses depth a (face s.store a.goal) w = subst (λ (x : Asked). HasVerdict clauses depth x (face s.store x.goal) w) e hw in
-      let f : w ≡ v = verdict_once clauses depth a (face s.store a.goal) w v hw2 hv in
-      let gw2 : GoesOn next goals k ks a s q w = subst (λ (x : Asked). GoesOn next goals k ks x s q w) e gw in
-      goes_once next each goals k ks a s r q v gv (subst (GoesOn next goals k ks a s q) f gw2)
+  pub turn_once : (s : State) (c d : Commit) (x y : Option State) → Turn clauses goals depth s c x → Turn clauses goals depth s d y → (c ≡ d) × (x ≡ y)
+  turn_once s c d x y h i =
+      let first : c.goal ∷ h.later ≡ d.goal ∷ i.later = sym h.first ∙ i.first in
+      let number : c.goal ≡ d.goal = cc (first) in
+      let later : h.later ≡ i.later = cc (first) in
+      let some : Some h.asked ≡ Some i.asked = sym h.is_goal ∙ ap (goal_at goals) number ∙ i.is_goal in
+      let asked : h.asked ≡ i.asked = cc (some) in
+      let under : HasVerdict clauses depth h.asked.mode h.asked.goal.shape (face s.store h.asked.goal) d.verdict = subst (λ (a : Asked). HasVerdict clauses depth a.mode a.goal.shape (face s.store a.goal) d.verdict) (sym asked) i.has_verdict in
+      let verdict : c.verdict ≡ d.verdict = verdict_once clauses depth h.asked.mode h.asked.goal.shape (face s.store h.asked.goal) c.verdict d.verdict h.has_verdict under in
+      same_turn goals s c d x y h.later i.later c.goal d.goal h.asked i.asked c.verdict d.verdict h.commits h.leads i.commits i.leads later number asked verdict
 
-  pub runs_once : (n : ℕ) (ks : List ℕ) (s : State) (r q : Run) → RunsWith clauses goals depth n ks s r → RunsWith clauses goals depth n ks s q → r ≡ q
-  runs_once n [] s r q h i = h ∙ sym i
-  runs_once zero (k ∷ ks) s r q h i = h ∙ sym i
-  runs_once (suc n) (k ∷ ks) s r q h i =
-      turn_once (λ t p. RunsWith clauses goals depth n t.waiting t p) (λ t p o. runs_once n t.waiting t p o) k ks s r q h.0 i.0 h.2 i.2 h.1 i.1 h.3 i.3 h.4 i.4
+  -- no turn follows the end of a run
+  ends_there : (left : ℕ) (s t : State) (c : Commit) (r : Run) → Ends clauses goals depth left s r → Turn clauses goals depth s c (Some t) → (left ≡ 0 → ⊥) → ⊥
+  ends_there left s t c r (none_waits w e) h some = let f : [] ≡ c.goal ∷ h.later = sym w ∙ h.first in absurd (cc (f))
+  ends_there left s t c r (turns_are_made w z e) h some = some z
+  ends_there left s t c r (goal_fails more l d i e) h some = let f : None ≡ Some t = (turn_once s d c None (Some t) i h).1 in absurd (cc (f))
 
-not_both : (q : Query) (store : Row) → BeginsNowhere q → Begins q store → ⊥
-not_both q store h k = h store k.row k.meets
+  ends_once : (left : ℕ) (s : State) (r q : Run) → Ends clauses goals depth left s r → Ends clauses goals depth left s q → r ≡ q
+  ends_once left s r q (none_waits w e) (none_waits x f) = e ∙ sym f
+  ends_once left s r q (none_waits w e) (turns_are_made x z f) = absurd (x w)
+  ends_once left s r q (none_waits w e) (goal_fails more l c h f) = let g : [] ≡ c.goal ∷ h.later = sym w ∙ h.first in absurd (cc (g))
+  ends_once left s r q (turns_are_made w z e) (none_waits x f) = absurd (w x)
+  ends_once left s r q (turns_are_made w z e) (turns_are_made x y f) = e ∙ sym f
+  ends_once left s r q (turns_are_made w z e) (goal_fails more l c h f) = let g : 0 ≡ suc more = sym z ∙ l in absurd (cc (g))
+  ends_once left s r q (goal_fails more l c h e) (none_waits x f) = let g : [] ≡ c.goal ∷ h.later = sym x ∙ h.first in absurd (cc (g))
+  ends_once left s r q (goal_fails more l c h e) (turns_are_made x z f) = let g : 0 ≡ suc more = sym z ∙ l in absurd (cc (g))
+  ends_once left s r q (goal_fails more l c h e) (goal_fails most m d i f) = e ∙ ap (failed s) (turn_once s c d None None h i).0 ∙ sym f
 
-pub run_once : (clauses : Program) (q : Query) (depth turns : ℕ) (r s : Run) → IsRun clauses q depth turns r → IsRun clauses q depth turns s → r ≡ s
-run_once clauses q depth turns r s (inl h) (inl k) = h.1 ∙ sym k.1
-run_once clauses q depth turns r s (inl h) (inr k) = absurd (not_both q k.0 h.0 k.1)
-run_once clauses q depth turns r s (inr h) (inl k) = absurd (not_both q h.0 k.0 h.1)
-run_once clauses q depth turns r s (inr h) (inr k) =
-    let e : k.0 ≡ h.0 = solved_once (unknowns q) (items_of q.items) k.0 h.0 k.1 h.1 in
-    let k2 : RunsWith clauses (goals_of q.items) depth turns (opening q h.0).waiting (opening q h.0) s = subst (λ (x : Row). RunsWith clauses (goals_of q.items) depth turns (opening q x).waiting (opening q x) s) e k.2 in
-    runs_once clauses (goals_of q.items) depth turns (opening q h.0).waiting (opening q h.0) r s h.2 k2
+  -- whole turns that lead from the state lie on the way to its run
+  pub on_the_way : (n m rest left : ℕ) (s t u : State) (r : Run) → n + rest ≡ m + left → Turns clauses goals depth n s t → Turns clauses goals depth m s u → Ends clauses goals depth left u r
+      → IsRunOn clauses goals depth rest t r
+  on_the_way zero m rest left s t u r e h i ends = record { made = m; left = left; within = omega (arith, e); last = u; leads = subst (λ x. Turns clauses goals depth m x u) h i; ends = ends }
+  on_the_way (suc n) zero rest left s t u r e h i ends =
+      let there : Ends clauses goals depth left s r = subst (λ x. Ends clauses goals depth left x r) (sym i) ends in
+      absurd (ends_there left s h.1 h.0 r there h.2 (λ z. omega (arith, e, z)))
+  on_the_way (suc n) (suc m) rest left s t u r e h i ends =
+      let same : Some i.1 ≡ Some h.1 = (turn_once s i.0 h.0 (Some i.1) (Some h.1) i.2 h.2).1 in
+      let next : i.1 ≡ h.1 = cc (same) in
+      on_the_way n m rest left h.1 t u r (omega (arith, e)) h.3 (subst (λ x. Turns clauses goals depth m x u) next i.3) ends
+
+  pub run_on_once : (turns : ℕ) (s : State) (r q : Run) → IsRunOn clauses goals depth turns s r → IsRunOn clauses goals depth turns s q → r ≡ q
+  run_on_once turns s r q h k =
+      let way = on_the_way h.made k.made h.left k.left s h.last k.last q (h.within ∙ sym k.within) h.leads k.leads k.ends in
+      at_its_end h.left h.last r q h.ends way.made way.left way.last way.within way.leads way.ends
+    where
+      at_its_end : (left : ℕ) (t : State) (r q : Run) → Ends clauses goals depth left t r → (m more : ℕ) (u : State) → m + more ≡ left → Turns clauses goals depth m t u → Ends clauses goals depth more u q → r ≡ q
+      at_its_end left t r q ends zero more u e same other = ends_once left t r q ends (subst (λ x. Ends clauses goals depth left x q) (sym same) (subst (λ n. Ends clauses goals depth n u q) (omega (arith, e)) other))
+      at_its_end left t r q ends (suc m) more u e i other = absurd (ends_there left t i.1 i.0 r ends i.2 (λ z. omega (arith, e, z)))

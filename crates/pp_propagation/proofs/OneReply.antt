@@ -1,17 +1,16 @@
 -- Words and a text call for at most one reply.
-use Rattle.std.proofs.Common.{◌≡◌, ℕ, List, ap, sym, ◌∙◌, subst, inl, inr}
+use Rattle.std.proofs.Common.{◌≡◌, List, ap, sym, ◌∙◌, subst, inl, inr}
 use Rattle.std.specs.Prelude.{◌⊎◌}
 use Rattle.pp_sld.specs.Goals.{program_of}
 use Rattle.pp_language.specs.declared.status.Status.{Status}
-use Rattle.pp_language.specs.declared.which.Which.{Which}
 use Rattle.pp_language.specs.Texts.{Text}
 use Rattle.pp_language.specs.Programs.{Written}
-use Rattle.pp_language.specs.Limits.{Writes, Passes}
+use Rattle.pp_language.specs.Limits.{Writes}
 use Rattle.pp_language.proofs.OneFault.{grammar_has_no_fault, one_fault, one_program, one_limit, not_both}
 use Rattle.pp_language.proofs.StatementParts.{says_once}
-use Rattle.pp_propagation.specs.Runs.{Run, IsRun}
-use Rattle.pp_propagation.specs.Replies.{status_of, answer_of, run_depth, run_turns, IsTooLong, which_name, limit_text, syntax_text, IsBuilt, IsAnswered, IsUnbuilt, IsLimited, IsFaulty, IsReplyWithin, IsReplyToText, IsUsage, AreWords, IsReply}
-use Rattle.pp_propagation.proofs.Once.{run_once}
+use Rattle.pp_propagation.specs.Runs.{IsRun}
+use Rattle.pp_propagation.specs.Replies.{status_of, answer_of, run_depth, run_turns, which_name, limit_text, syntax_text, IsBuilt, IsAnswered, IsUnbuilt, IsLimited, IsFaulty, IsReplyWithin, IsReplyToText, IsReply}
+use Rattle.pp_propagation.proofs.Exists.{run_once}
 
 abbrev Same : Status → Text → Status → Text → Type 0
 Same s b t c = (s ≡ t) × (b ≡ c)

@@ -1,5 +1,6 @@
 pub mod Stores
 pub mod Turns
+pub mod Histories
 pub mod Runs
 pub mod Replies
 pub mod Laws

@@ -2,6 +2,7 @@
 use Rattle.std.specs.Prelude.{◌≡◌, ℕ, ◌<◌, ◌⊎◌, true, false, List, [], ◌∷◌, ◌++◌, length, codes}
 use Rattle.std.specs.Fmt.{decimal}
 use Rattle.pp_algebra.specs.Terms.{Trees}
+use Rattle.pp_algebra.specs.Rows.{Row}
 use Rattle.pp_sld.specs.Goals.{Predicate, user, Clause, program_of}
 use Rattle.pp_sld.specs.Verdicts.{most}
 use Rattle.pp_language.specs.declared.status.Status.{Status}
@@ -13,6 +14,8 @@ use Rattle.pp_language.specs.Programs.{infers, Written}
 use Rattle.pp_language.specs.Faults.{IsSyntaxFault}
 use Rattle.pp_language.specs.Limits.{Writes, Passes}
 use Rattle.pp_language.specs.Answers.{line, store_text, no_text, usage_text, unbuilt_text}
+use Rattle.pp_propagation.specs.Stores.{goals_of}
+use Rattle.pp_propagation.specs.Histories.{unfinished_goals}
 use Rattle.pp_propagation.specs.Runs.{End, yes, no, stopped, Run, IsRun}
 
 abbrev pub status_of : End → Status
@@ -20,13 +23,15 @@ status_of yes = Yes
 status_of no = No
 status_of stopped = Stopped
 
-abbrev pub answer_by : Written → Run → End → Text
-answer_by w r no = no_text
-answer_by w r yes = store_text w.names w.query.named r.store r.unfinished false
-answer_by w r stopped = store_text w.names w.query.named r.store r.unfinished true
+-- what is written of a run that ended so
+abbrev pub answer_text : List Text → List Text → Row → List ℕ → End → Text
+answer_text names named store unfinished no = no_text
+answer_text names named store unfinished yes = store_text names named store unfinished false
+answer_text names named store unfinished stopped = store_text names named store unfinished true
 
+-- the answer of a run of what a text writes
 abbrev pub answer_of : Written → Run → Text
-answer_of w r = answer_by w r r.end
+answer_of w r = answer_text w.names w.query.named r.store (unfinished_goals (length (goals_of w.query.items)) r.history) r.end
 
 -- every run has this depth and these turns
 abbrev pub run_depth : ℕ

@@ -2,7 +2,7 @@
 use Rattle.std.specs.Prelude.{ℕ, pos, zero, suc, ◌⊎◌, Bool, false, cond, nat_eq, List, [], ◌∷◌, None}
 use Rattle.std.proofs.Common.{inl, inr}
 use Rattle.pp_algebra.specs.Terms.{Tree, int, variable, Trees, none, more, put, put_all, variables_all}
-use Rattle.pp_algebra.specs.Rows.{Domain, Domains, Pattern, Row, domain_at}
+use Rattle.pp_algebra.specs.Rows.{Domains, Pattern, Row, domain_at}
 use Rattle.pp_algebra.specs.Canon.{has, place, firsts, canon}
 use Rattle.pp_algebra.specs.Solve.{Item, IsSolved, HasNone}
 use Rattle.pp_sld.specs.Goals.{Goal}

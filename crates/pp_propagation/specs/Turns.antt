@@ -1,42 +1,39 @@
--- One turn of a run: a goal's verdict under its face, and what it changes.
-use Rattle.std.specs.Prelude.{◌≡◌, ℕ, suc, Bool, true, false, not, ◌&&◌, cond, nat_eq, nat_le, List, [], ◌∷◌, ◌++◌}
+-- One turn of a run: what is committed for the goal whose turn it is, and what that makes of the state between two turns.
+use Rattle.std.specs.Prelude.{◌≡◌, ℕ, zero, suc, not, ◌&&◌, cond, nat_eq, List, [], ◌∷◌, ◌++◌, Option, Some, None}
 use Rattle.pp_algebra.specs.Rows.{Row}
 use Rattle.pp_algebra.specs.Canon.{has, same_row}
-use Rattle.pp_sld.specs.Goals.{Program}
-use Rattle.pp_sld.specs.Leaves.{call, root, HasLeaves}
-use Rattle.pp_sld.specs.Verdicts.{Verdict, fail, same, nothing, unfinished, narrow, verdict}
+use Rattle.pp_sld.specs.Goals.{Goal, Program}
+use Rattle.pp_sld.specs.Verdicts.{Verdict, fail, narrow, HasVerdict}
 use Rattle.pp_propagation.specs.Stores.{Asked, face, apply}
 
--- the verdict of the goal's search under a face, at a depth
-pub record HasVerdict (clauses : Program) (depth : ℕ) (a : Asked) (under : Row) (v : Verdict) : Type 0 where
-  pub answers : List Row
-  pub loose_ends : List Row
-  pub leaves : HasLeaves clauses (root a.goal.shape under depth) answers loose_ends
-  pub is_verdict : verdict a.mode (call under) answers loose_ends ≡ v
-
--- a turn that narrowed
-pub record Change : Type 0 where
-  pub turn : ℕ
+-- a turn that was made: the goal's number, its face, the verdict of its search, and the store after it
+pub record Commit : Type 0 where
   pub goal : ℕ
-  pub given : Row
+  pub face : Row
+  pub verdict : Verdict
   pub store : Row
 
--- between two turns: the store, the goals that wait, first the one whose turn comes, the unfinished ones, and what was done
+-- between two turns: the store, the goals that wait, first the one whose turn comes, and all turns so far
 pub record State : Type 0 where
   pub store : Row
   pub waiting : List ℕ
-  pub unfinished : List ℕ
-  pub turns : ℕ
-  pub changes : List Change
+  pub history : List Commit
 
-abbrev pub without : ℕ → List ℕ → List ℕ
-without k [] = []
-without k (n ∷ ns) = cond (nat_eq n k) (without k ns) (n ∷ without k ns)
+-- goal number k, counted from 1
+abbrev pub goal_at : List Asked → ℕ → Option Asked
+goal_at [] k = None
+goal_at (a ∷ later) zero = None
+goal_at (a ∷ later) (suc zero) = Some a
+goal_at (a ∷ later) (suc (suc k)) = goal_at later (suc k)
 
--- ascending
-abbrev pub with_goal : ℕ → List ℕ → List ℕ
-with_goal k [] = k ∷ []
-with_goal k (n ∷ ns) = cond (nat_le k n) (k ∷ without k (n ∷ ns)) (n ∷ with_goal k ns)
+-- the store after a turn of the goal with this verdict
+abbrev pub store_after : Row → Goal ℕ → Verdict → Row
+store_after store g (narrow given) = apply store g given
+store_after store g v = store
+
+-- what is committed for goal number k, the goal `a`, with this verdict
+abbrev pub committed : Row → ℕ → Asked → Verdict → Commit
+committed store k a v = record { goal = k; face = face store a.goal; verdict = v; store = store_after store a.goal v }
 
 -- the goals from number k on whose face isn't what it was and that don't wait, ascending
 abbrev pub woken : Row → Row → List ℕ → ℕ → List Asked → List ℕ
@@ -44,18 +41,21 @@ woken old new waiting k [] = []
 woken old new waiting k (a ∷ later) =
     cond (not (same_row (face old a.goal) (face new a.goal)) && not (has nat_eq waiting k)) (k ∷ woken old new waiting (suc k) later) (woken old new waiting (suc k) later)
 
--- the goal k narrowed, and these goals wait behind it
-abbrev pub narrowed : List Asked → State → ℕ → Asked → List ℕ → Row → State
-narrowed goals s k a waiting given =
-    let store = apply s.store a.goal given in
-    record {
-      store = store;
-      waiting = waiting ++ woken s.store store waiting 1 goals;
-      unfinished = without k s.unfinished;
-      turns = suc s.turns;
-      changes = s.changes ++ record { turn = suc s.turns; goal = k; given = given; store = store } ∷ [];
-    }
+abbrev pub commit : State → List ℕ → Commit → State
+commit s waiting c = record { store = c.store; waiting = waiting; history = s.history ++ c ∷ [] }
 
--- nothing changes but the list of unfinished goals
-abbrev pub passed_by : State → List ℕ → List ℕ → State
-passed_by s waiting left = record { store = s.store; waiting = waiting; unfinished = left; turns = suc s.turns; changes = s.changes }
+-- what a turn of goal number k, the goal `a`, with this verdict makes of a state in which these goals wait after it: None where the goal fails
+abbrev pub turned : List Asked → List ℕ → ℕ → Asked → Verdict → State → Option State
+turned goals later k a fail s = None
+turned goals later k a (narrow given) s = Some (commit s (later ++ woken s.store (apply s.store a.goal given) later 1 goals) (committed s.store k a (narrow given)))
+turned goals later k a v s = Some (commit s later (committed s.store k a v))
+
+-- the first goal that waits in a state has its turn, which is committed so and makes this of the state
+pub record Turn (clauses : Program) (goals : List Asked) (depth : ℕ) (s : State) (c : Commit) (after : Option State) : Type 0 where
+  pub asked : Asked
+  pub later : List ℕ
+  pub first : s.waiting ≡ c.goal ∷ later
+  pub is_goal : goal_at goals c.goal ≡ Some asked
+  pub has_verdict : HasVerdict clauses depth asked.mode asked.goal.shape (face s.store asked.goal) c.verdict
+  pub commits : c ≡ committed s.store c.goal asked c.verdict
+  pub leads : after ≡ turned goals later c.goal asked c.verdict s

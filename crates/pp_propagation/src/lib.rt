@@ -5,4 +5,4 @@
 
 mod laws;
 
-pub use laws::{reply_is_unique, run_is_unique, verdict_is_unique};
+pub use laws::{faces_and_stores_are_rows, reply_is_unique, run_is_made_of_turns, run_is_unique};

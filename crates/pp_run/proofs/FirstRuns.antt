@@ -1,32 +1,32 @@
 -- Between two turns of a query of one goal with `most`, and what a turn makes of it.
-use Rattle.std.proofs.Common.{◌≡◌, ℕ, zero, suc, ◌+◌, ◌<◌, true, List, [], ◌∷◌, length, None, refl, ap, sym, ◌∙◌, subst, inr, arith}
+use Rattle.std.proofs.Common.{◌≡◌, ℕ, zero, suc, ◌+◌, ◌-◌, ◌<◌, Bool, true, false, List, [], ◌∷◌, ◌++◌, length, Option, Some, None, refl, ap, sym, ◌∙◌, subst, arith}
 use Rattle.std.specs.Prelude.{cond, not, ◌&&◌, nat_eq}
-use Rattle.std.proofs.Math.ListN.{length-map}
-use Rattle.pp_algebra.specs.Terms.{Tree, count, variable}
-use Rattle.pp_algebra.specs.Rows.{Row, domain_at}
-use Rattle.pp_algebra.specs.Canon.{place}
+use Rattle.std.proofs.lemmas.List.{length_push}
+use Rattle.pp_algebra.specs.Terms.{Tree, count}
+use Rattle.pp_algebra.specs.Rows.{Row}
 use Rattle.pp_algebra.specs.Solve.{IsSolved}
 use Rattle.pp_algebra.proofs.Put.{count-put_all}
-use Rattle.pp_sld.specs.Goals.{Predicate, Goal, Program}
+use Rattle.pp_sld.specs.Goals.{Predicate, Program}
 use Rattle.pp_sld.specs.Leaves.{variables_from}
-use Rattle.pp_sld.specs.Verdicts.{Verdict, fail, same, narrow}
+use Rattle.pp_sld.specs.Verdicts.{Verdict, fail, same, narrow, HasVerdict}
 use Rattle.pp_language.specs.Texts.{Text}
-use Rattle.pp_language.specs.Programs.{Query}
-use Rattle.pp_propagation.specs.Stores.{Asked, goals_of, column, arguments_under, face, face_variables, replaced_by, apply}
-use Rattle.pp_propagation.specs.Turns.{HasVerdict, State, without, woken, narrowed, passed_by}
-use Rattle.pp_propagation.specs.Runs.{yes, no, stopped, Run, ended, failed, GoesOn, RunsWith, opening, IsRun}
-use Rattle.pp_run.specs.RunOutcomes.{asked, query_by, Ran}
+use Rattle.pp_propagation.specs.Stores.{Asked, face, apply}
+use Rattle.pp_propagation.specs.Turns.{Commit, State, committed, woken, commit, turned, Turn}
+use Rattle.pp_propagation.specs.Histories.{last_verdict, is_unfinished, unfinished_goals}
+use Rattle.pp_propagation.specs.Runs.{End, yes, no, stopped, Run, ended, failed, opening, Ends, none_waits, turns_are_made, goal_fails, Turns, begins}
+use Rattle.pp_propagation.proofs.Passing.{one_more, counted}
+use Rattle.pp_run.specs.RunOutcomes.{HasVerdictOf, asked, unknown, query_by, Ran}
 use Rattle.pp_run.proofs.FirstVerdicts.{not_same, is_same}
 
--- the goal waits, and so many turns were made: a run from the state is one from the beginning
-pub record Between (clauses : Program) (q : Query) (depth turns : ℕ) (store : Row) (made : ℕ) : Type 0 where
+-- so many whole turns lead from the opening store to this one, and the goal waits
+pub record Between (clauses : Program) (n : ℕ) (a : Asked) (depth : ℕ) (store : Row) (made : ℕ) : Type 0 where
+  pub begun : Row
+  pub begins : IsSolved (unknown n) [] begun
   pub state : State
-  pub left : ℕ
-  pub all : made + left ≡ turns
+  pub leads : Turns clauses (a ∷ []) depth made (opening (a ∷ []) begun) state
   pub has_store : state.store ≡ store
-  pub unfinished : state.unfinished ≡ []
-  pub has_made : state.turns ≡ made
-  pub comes : (r : Run) → RunsWith clauses (goals_of q.items) depth left (1 ∷ []) state r → IsRun clauses q depth turns r
+  pub waits : state.waiting ≡ 1 ∷ []
+  pub finished : is_unfinished (last_verdict None 1 state.history) ≡ false
 
 wakes : (old new : Row) (a : Asked) → (face old a.goal ≡ face new a.goal → ⊥) → woken old new [] 1 (a ∷ []) ≡ 1 ∷ []
 wakes old new a h = ap (λ b. cond (not b && true) (1 ∷ []) []) (not_same (face old a.goal) (face new a.goal) h)
@@ -34,127 +34,139 @@ wakes old new a h = ap (λ b. cond (not b && true) (1 ∷ []) []) (not_same (fac
 rests : (old new : Row) (a : Asked) → face old a.goal ≡ face new a.goal → woken old new [] 1 (a ∷ []) ≡ []
 rests old new a h = ap (λ b. cond (not b && true) (1 ∷ []) []) (is_same (face old a.goal) (face new a.goal) h)
 
-one_less : (left made turns : ℕ) → made + left ≡ turns → made < turns → (k : ℕ) × (left ≡ suc k) × ((made + 1) + k ≡ turns)
-one_less zero made turns e l = absurd (omega arith)
-one_less (suc k) made turns e l = (k, refl, omega arith)
+-- the last verdict of the goal after one more turn of it
+last_is : (before : Option Verdict) (history : List Commit) (c : Commit) → c.goal ≡ 1 → last_verdict before 1 (history ++ c ∷ []) ≡ Some c.verdict
+last_is before [] c e = ap (λ k. cond (nat_eq k 1) (Some c.verdict) before) e
+last_is before (d ∷ history) c e = last_is (cond (nat_eq d.goal 1) (Some d.verdict) before) history c e
 
-module _ (clauses : Program) (n : ℕ) (named : List Text) (p : Predicate) (arguments : List (Tree ℕ)) (depth turns : ℕ) where
-  pub begun : (store : Row) → IsSolved (record { columns = variables_from 0 n; domains = λ _. None }) [] store → Between clauses (query_by n named p arguments) depth turns store 0
-  begun store h = record {
-    state = opening (query_by n named p arguments) store;
-    left = turns;
-    all = omega arith;
-    has_store = refl;
-    unfinished = refl;
-    has_made = refl;
-    comes = λ r k. inr (store, h, k);
+finished_by : (history : List Commit) (c : Commit) → c.goal ≡ 1 → is_unfinished (Some c.verdict) ≡ false → is_unfinished (last_verdict None 1 (history ++ c ∷ [])) ≡ false
+finished_by history c e f = ap is_unfinished (last_is None history c e) ∙ f
+
+none_unfinished : (history : List Commit) → is_unfinished (last_verdict None 1 history) ≡ false → unfinished_goals 1 history ≡ []
+none_unfinished history e = ap (λ b. cond b (1 ∷ []) []) e
+
+module _ (clauses : Program) (n : ℕ) (p : Predicate) (arguments : List (Tree ℕ)) (depth : ℕ) where
+  abbrev goal : Asked
+  goal = asked p arguments
+
+  abbrev IsBetween : Row → ℕ → Type 0
+  IsBetween store made = Between clauses n goal depth store made
+
+  pub begun : (store : Row) → IsSolved (unknown n) [] store → Between clauses n (asked p arguments) depth store 0
+  begun store h = record { begun = store; begins = h; state = opening (goal ∷ []) store; leads = refl; has_store = refl; waits = refl; finished = refl }
+
+  -- the turn with this verdict that comes
+  comes : (store : Row) (made : ℕ) (b : IsBetween store made) (v : Verdict) → HasVerdictOf clauses depth goal (face store goal.goal) v
+      → Turn clauses (goal ∷ []) depth b.state (committed b.state.store 1 goal v) (turned (goal ∷ []) [] 1 goal v b.state)
+  comes store made b v h = record {
+    asked = goal;
+    later = [];
+    first = b.waits;
+    is_goal = refl;
+    has_verdict = subst (λ s. HasVerdictOf clauses depth goal (face s goal.goal) v) (sym b.has_store) h;
+    commits = refl;
+    leads = refl;
   }
 
-  pub stops : (store : Row) (made : ℕ) → made ≡ turns → Between clauses (query_by n named p arguments) depth turns store made → Ran clauses (query_by n named p arguments) depth turns stopped store made
-  stops store made e b =
-      let none_left : b.left ≡ 0 = omega (arith, b.all, e) in
-      record {
-        run = ended stopped b.state;
-        is_run = b.comes (ended stopped b.state) (subst (λ k. RunsWith clauses (asked p arguments ∷ []) depth k (1 ∷ []) b.state (ended stopped b.state)) (sym none_left) refl);
-        ends = refl;
-        has_store = b.has_store;
-        unfinished = b.unfinished;
-        has_made = b.has_made;
-      }
+  -- a run that ends in a state to which whole turns lead
+  ends_in : (named : List Text) (turns made left : ℕ) (store : Row) → IsSolved (unknown n) [] store → (s : State) (r : Run)
+      → made + left ≡ turns → Turns clauses (goal ∷ []) depth made (opening (goal ∷ []) store) s → Ends clauses (goal ∷ []) depth left s r
+      → (e : End) (last : Row) (so_many : ℕ) → r.end ≡ e → r.store ≡ last → length r.history ≡ so_many → is_unfinished (last_verdict None 1 r.history) ≡ false
+      → Ran clauses (query_by n named p arguments) depth turns e last so_many
+  ends_in named turns made left store h s r w l k e last so_many f g m u = record {
+    run = r;
+    is_run = begins store h (record { made = made; left = left; within = w; last = s; leads = l; ends = k });
+    ends = f;
+    has_store = g;
+    unfinished = none_unfinished r.history u;
+    has_made = m;
+  }
 
-  module _ (store : Row) (made : ℕ) (l : made < turns) (b : Between clauses (query_by n named p arguments) depth turns store made) where
-    -- what a turn with this verdict leads to
-    turned : (v : Verdict) → HasVerdict clauses depth (asked p arguments) (face store (asked p arguments).goal) v → (r : Run)
-        → GoesOn (λ t q. RunsWith clauses (asked p arguments ∷ []) depth (one_less b.left made turns b.all l).0 t.waiting t q) (asked p arguments ∷ []) 1 [] (asked p arguments) b.state r v → IsRun clauses (query_by n named p arguments) depth turns r
-    turned v h r g =
-        let o = one_less b.left made turns b.all l in
-        let now : HasVerdict clauses depth (asked p arguments) (face b.state.store (asked p arguments).goal) v = subst (λ s. HasVerdict clauses depth (asked p arguments) (face s (asked p arguments).goal) v) (sym b.has_store) h in
-        b.comes r (subst (λ k. RunsWith clauses (asked p arguments ∷ []) depth k (1 ∷ []) b.state r) (sym o.1) (asked p arguments, refl, v, now, g))
+  so_many_made : (store : Row) (made : ℕ) (b : IsBetween store made) → length b.state.history ≡ made
+  so_many_made store made b = counted clauses (goal ∷ []) depth made (opening (goal ∷ []) b.begun) b.state b.leads ∙ omega arith
 
-    pub fails_now : HasVerdict clauses depth (asked p arguments) (face store (asked p arguments).goal) fail → Ran clauses (query_by n named p arguments) depth turns no store (made + 1)
-    fails_now h = record {
-      run = failed 1 b.state;
-      is_run = turned fail h (failed 1 b.state) refl;
-      ends = refl;
-      has_store = b.has_store;
-      unfinished = ap (without 1) b.unfinished;
-      has_made = omega (arith, b.has_made);
-    }
+  one_made : (store : Row) (made : ℕ) (b : IsBetween store made) (c : Commit) → length (b.state.history ++ c ∷ []) ≡ made + 1
+  one_made store made b c = length_push b.state.history c ∙ omega (arith, so_many_made store made b)
 
-    pub stays_now : HasVerdict clauses depth (asked p arguments) (face store (asked p arguments).goal) same → Ran clauses (query_by n named p arguments) depth turns yes store (made + 1)
+  pub stops : (named : List Text) (turns : ℕ) (store : Row) (made : ℕ) → made ≡ turns → Between clauses n (asked p arguments) depth store made → Ran clauses (query_by n named p arguments) depth turns stopped store made
+  stops named turns store made e b =
+      ends_in named turns made 0 b.begun b.begins b.state (ended stopped b.state) (omega (arith, e)) b.leads
+      (turns_are_made (λ f. let g : [] ≡ 1 ∷ [] = sym f ∙ b.waits in absurd (cc (g))) refl refl)
+      stopped store made refl b.has_store (so_many_made store made b) b.finished
+
+  module _ (named : List Text) (turns : ℕ) (store : Row) (made : ℕ) (l : made < turns) (b : Between clauses n (asked p arguments) depth store made) where
+    pub fails_now : HasVerdictOf clauses depth (asked p arguments) (face store (asked p arguments).goal) fail → Ran clauses (query_by n named p arguments) depth turns no store (made + 1)
+    fails_now h =
+        let c = committed b.state.store 1 goal fail in
+        let more : (k : ℕ) × (made + suc k ≡ turns) = left_over made turns l in
+        ends_in named turns made (suc more.0) b.begun b.begins b.state (failed b.state c) more.1 b.leads
+        (goal_fails more.0 refl c (comes store made b fail h) refl)
+        no store (made + 1) refl b.has_store (one_made store made b c) (finished_by b.state.history c refl refl)
+      where
+        left_over : (made turns : ℕ) → made < turns → (k : ℕ) × (made + suc k ≡ turns)
+        left_over made turns l = (turns - suc made, omega (arith, l))
+
+    -- no goal waits after this turn
+    rests_after : (v : Verdict) (s : State) → HasVerdictOf clauses depth goal (face store goal.goal) v → Some s ≡ turned (goal ∷ []) [] 1 goal v b.state → s.waiting ≡ []
+        → s.history ≡ b.state.history ++ committed b.state.store 1 goal v ∷ [] → is_unfinished (Some v) ≡ false
+        → Ran clauses (query_by n named p arguments) depth turns yes s.store (made + 1)
+    rests_after v s h e w k u =
+        let c = committed b.state.store 1 goal v in
+        let t : Turn clauses (goal ∷ []) depth b.state c (Some s) = subst (λ x. Turn clauses (goal ∷ []) depth b.state c x) (sym e) (comes store made b v h) in
+        let all : suc made + (turns - suc made) ≡ turns = omega (arith, l) in
+        ends_in named turns (suc made) (turns - suc made) b.begun b.begins s (ended yes s) all
+        (one_more clauses (goal ∷ []) depth made (opening (goal ∷ []) b.begun) b.state s c b.leads t)
+        (none_waits w refl)
+        yes s.store (made + 1) refl refl (ap length k ∙ one_made store made b c) (ap (λ x. is_unfinished (last_verdict None 1 x)) k ∙ finished_by b.state.history c refl u)
+
+    pub stays_now : HasVerdictOf clauses depth (asked p arguments) (face store (asked p arguments).goal) same → Ran clauses (query_by n named p arguments) depth turns yes store (made + 1)
     stays_now h =
-        let s = passed_by b.state [] (without 1 b.state.unfinished) in
-        record {
-          run = ended yes s;
-          is_run = turned same h (ended yes s) refl;
-          ends = refl;
-          has_store = b.has_store;
-          unfinished = ap (without 1) b.unfinished;
-          has_made = omega (arith, b.has_made);
-        }
+        subst (λ s. Ran clauses (query_by n named p arguments) depth turns yes s (made + 1)) b.has_store
+        (rests_after same (commit b.state [] (committed b.state.store 1 goal same)) h refl refl refl refl)
 
-    module _ (given : Row) (h : HasVerdict clauses depth (asked p arguments) (face store (asked p arguments).goal) (narrow given)) where
-      new_store : apply b.state.store (asked p arguments).goal given ≡ apply store (asked p arguments).goal given
-      new_store = ap (λ s. apply s (asked p arguments).goal given) b.has_store
+    module _ (given : Row) (h : HasVerdictOf clauses depth (asked p arguments) (face store (asked p arguments).goal) (narrow given))
+        (new under later : Row) (e : new ≡ apply store (asked p arguments).goal given) (f : under ≡ face store (asked p arguments).goal) (g : later ≡ face new (asked p arguments).goal) where
+      abbrev after : State
+      after = commit b.state (woken b.state.store (apply b.state.store goal.goal given) [] 1 (goal ∷ [])) (committed b.state.store 1 goal (narrow given))
 
-      pub rests_now : face store (asked p arguments).goal ≡ face (apply store (asked p arguments).goal given) (asked p arguments).goal → Ran clauses (query_by n named p arguments) depth turns yes (apply store (asked p arguments).goal given) (made + 1)
-      rests_now e =
-          let s = narrowed (asked p arguments ∷ []) b.state 1 (asked p arguments) [] given in
-          let f : face b.state.store (asked p arguments).goal ≡ face s.store (asked p arguments).goal = ap (λ x. face x (asked p arguments).goal) b.has_store ∙ e ∙ ap (λ x. face x (asked p arguments).goal) (sym new_store) in
-          let w : s.waiting ≡ [] = rests b.state.store s.store (asked p arguments) f in
+      new_is : apply b.state.store goal.goal given ≡ new
+      new_is = ap (λ s. apply s goal.goal given) b.has_store ∙ sym e
+
+      under_is : face b.state.store goal.goal ≡ under
+      under_is = ap (λ s. face s goal.goal) b.has_store ∙ sym f
+
+      later_is : face (apply b.state.store goal.goal given) goal.goal ≡ later
+      later_is = ap (λ s. face s goal.goal) new_is ∙ sym g
+
+      pub rests_now : later ≡ under → Ran clauses (query_by n named p arguments) depth turns yes new (made + 1)
+      rests_now k =
+          subst (λ s. Ran clauses (query_by n named p arguments) depth turns yes s (made + 1)) new_is
+          (rests_after (narrow given) after h refl (rests b.state.store (apply b.state.store goal.goal given) goal (under_is ∙ sym k ∙ sym later_is)) refl refl)
+
+      next_number : suc made ≡ made + 1
+      next_number = omega arith
+
+      pub wakes_now : (later ≡ under → ⊥) → Between clauses n (asked p arguments) depth new (made + 1)
+      wakes_now k =
+          let c = committed b.state.store 1 goal (narrow given) in
+          let leads : Turns clauses (goal ∷ []) depth (suc made) (opening (goal ∷ []) b.begun) after = one_more clauses (goal ∷ []) depth made (opening (goal ∷ []) b.begun) b.state after c b.leads (comes store made b (narrow given) h) in
           record {
-            run = ended yes s;
-            is_run = turned (narrow given) h (ended yes s) (subst (λ ks. RunsWith clauses (asked p arguments ∷ []) depth (one_less b.left made turns b.all l).0 ks s (ended yes s)) (sym w) refl);
-            ends = refl;
-            has_store = new_store;
-            unfinished = ap (without 1) b.unfinished;
-            has_made = omega (arith, b.has_made);
+            begun = b.begun;
+            begins = b.begins;
+            state = after;
+            leads = subst (λ m. Turns clauses (goal ∷ []) depth m (opening (goal ∷ []) b.begun) after) next_number leads;
+            has_store = new_is;
+            waits = wakes b.state.store (apply b.state.store goal.goal given) goal (λ x. k (sym later_is ∙ sym x ∙ under_is));
+            finished = finished_by b.state.history c refl refl;
           }
-
-      pub wakes_now : (face store (asked p arguments).goal ≡ face (apply store (asked p arguments).goal given) (asked p arguments).goal → ⊥) → Between clauses (query_by n named p arguments) depth turns (apply store (asked p arguments).goal given) (made + 1)
-      wakes_now d =
-          let s = narrowed (asked p arguments ∷ []) b.state 1 (asked p arguments) [] given in
-          let o = one_less b.left made turns b.all l in
-          let f : face b.state.store (asked p arguments).goal ≡ face s.store (asked p arguments).goal → ⊥ = λ e. d (ap (λ x. face x (asked p arguments).goal) (sym b.has_store) ∙ e ∙ ap (λ x. face x (asked p arguments).goal) new_store) in
-          let w : s.waiting ≡ 1 ∷ [] = wakes b.state.store s.store (asked p arguments) f in
-          record {
-            state = s;
-            left = o.0;
-            all = o.2;
-            has_store = new_store;
-            unfinished = ap (without 1) b.unfinished;
-            has_made = omega (arith, b.has_made);
-            comes = λ r k. turned (narrow given) h r (subst (λ ks. RunsWith clauses (asked p arguments ∷ []) depth o.0 ks s r) (sym w) k);
-          }
-
-      -- with the new store and the faces named
-      module _ (new under later : Row) (e : new ≡ apply store (asked p arguments).goal given) (f : under ≡ face store (asked p arguments).goal) (g : later ≡ face new (asked p arguments).goal) where
-        now_later : later ≡ face (apply store (asked p arguments).goal given) (asked p arguments).goal
-        now_later = g ∙ ap (λ s. face s (asked p arguments).goal) e
-
-        pub rests_at : later ≡ under → Ran clauses (query_by n named p arguments) depth turns yes new (made + 1)
-        rests_at k = subst (λ s. Ran clauses (query_by n named p arguments) depth turns yes s (made + 1)) (sym e) (rests_now (sym f ∙ sym k ∙ now_later))
-
-        pub wakes_at : (later ≡ under → ⊥) → Between clauses (query_by n named p arguments) depth turns new (made + 1)
-        wakes_at k = subst (λ s. Between clauses (query_by n named p arguments) depth turns s (made + 1)) (sym e) (wakes_now (λ h. k (now_later ∙ sym h ∙ sym f)))
 
 -- the verdict of a goal under the face that it has in a store
-pub under_store : (clauses : Program) (depth : ℕ) (a : Asked) (store under : Row) (v w : Verdict) → HasVerdict clauses depth a under v → under ≡ face store a.goal → v ≡ w → HasVerdict clauses depth a (face store a.goal) w
-under_store clauses depth a store under v w h e f = subst (λ u. HasVerdict clauses depth a u w) e (subst (HasVerdict clauses depth a under) f h)
-
--- the sizes of faces and of stores
-pub face-count : (store : Row) (g : Goal ℕ) → count (face store g).columns ≡ count g.arguments
-face-count store g = count-put_all (λ v. variable (place nat_eq (face_variables store g) v)) (arguments_under store g) ∙ count-put_all (column store.columns) g.arguments
-
-pub face-variables : (store : Row) (g : Goal ℕ) → length (face store g).domains ≡ length (face_variables store g)
-face-variables store g = length-map (face_variables store g) (domain_at store.domains)
-
-pub apply-count : (store : Row) (g : Goal ℕ) (given : Row) → count (apply store g given).columns ≡ count store.columns
-apply-count store g given = count-put_all _ _ ∙ count-put_all (replaced_by given (face_variables store g)) store.columns
+pub under_store : (clauses : Program) (depth : ℕ) (a : Asked) (store under : Row) (v w : Verdict) → HasVerdictOf clauses depth a under v → under ≡ face store a.goal → v ≡ w → HasVerdictOf clauses depth a (face store a.goal) w
+under_store clauses depth a store under v w h e f = subst (λ u. HasVerdictOf clauses depth a u w) e (subst (HasVerdictOf clauses depth a under) f h)
 
 count-from : (first n : ℕ) → count (variables_from first n) ≡ n
 count-from first zero = refl
 count-from first (suc n) = ap suc (count-from (suc first) n)
 
-pub opening-count : (n : ℕ) (store : Row) → IsSolved (record { columns = variables_from 0 n; domains = λ _. None }) [] store → count store.columns ≡ n
+pub opening-count : (n : ℕ) (store : Row) → IsSolved (unknown n) [] store → count store.columns ≡ n
 opening-count n store h = ap count (sym h.meets.columns) ∙ count-put_all h.meets.by (variables_from 0 n) ∙ count-from 0 n

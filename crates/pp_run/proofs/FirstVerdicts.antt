@@ -4,14 +4,12 @@ use Rattle.std.specs.Prelude.{cond}
 use Rattle.pp_algebra.specs.Rows.{Row}
 use Rattle.pp_algebra.specs.Canon.{same_row}
 use Rattle.pp_algebra.specs.Least.{least_row, least_list}
-use Rattle.pp_algebra.specs.Terms.{Tree, count}
+use Rattle.pp_algebra.specs.Terms.{count}
 use Rattle.pp_algebra.proofs.Law.{count-covers, least_row-covers}
 use Rattle.pp_sld.specs.Goals.{Predicate, user, Program}
 use Rattle.pp_sld.specs.Leaves.{call, root, HasLeaves}
-use Rattle.pp_propagation.specs.Turns.{HasVerdict}
 use Rattle.pp_resolve.specs.Facts.{HaveWidth}
-use Rattle.pp_run.specs.RunOutcomes.{asked}
-use Rattle.pp_sld.specs.Verdicts.{Verdict, same, narrow, unfinished, most, verdict}
+use Rattle.pp_sld.specs.Verdicts.{Verdict, same, narrow, unfinished, most, verdict, HasVerdict}
 use Rattle.pp_algebra.proofs.SameRow.{same_row-sound, same_row-itself}
 
 pub not_same : (r q : Row) → (r ≡ q → ⊥) → same_row r q ≡ false
@@ -38,8 +36,8 @@ narrows call (a ∷ A) given e f =
     ∙ ap (λ b. cond b (narrow (least_row a A)) unfinished) (is_same (least_row a A) (least_row a (A ++ [])) (ap (least_row a) (sym (append-nil A))))
     ∙ ap narrow g
 
-pub has_verdict : (clauses : Program) (depth : ℕ) (p : Predicate) (arguments : List (Tree ℕ)) (under : Row) (A : List Row) (v : Verdict) → HasLeaves clauses (root (user p) under depth) A [] → verdict most (call under) A [] ≡ v → HasVerdict clauses depth (asked p arguments) under v
-has_verdict clauses depth p arguments under A v h e = record { answers = A; loose_ends = []; leaves = h; is_verdict = e }
+pub has_verdict : (clauses : Program) (depth : ℕ) (p : Predicate) (under : Row) (A : List Row) (v : Verdict) → HasLeaves clauses (root (user p) under depth) A [] → verdict most (call under) A [] ≡ v → HasVerdict clauses depth most (user p) under v
+has_verdict clauses depth p under A v h e = record { answers = A; loose_ends = []; leaves = h; is_verdict = e }
 
 pub given_width : (A : List Row) (given : Row) (n : ℕ) → HaveWidth n A → least_list A ≡ Some given → count given.columns ≡ n
 given_width [] given n h e = absurd (cc)

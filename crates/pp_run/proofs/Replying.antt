@@ -12,9 +12,11 @@ use Rattle.pp_language.specs.Printing.{name_at}
 use Rattle.pp_language.specs.Programs.{Written}
 use Rattle.pp_language.specs.Faults.{IsSyntaxFault}
 use Rattle.pp_language.specs.Limits.{Writes, Passes}
-use Rattle.pp_language.specs.Answers.{store_text, unbuilt_text}
+use Rattle.pp_language.specs.Answers.{unbuilt_text}
+use Rattle.pp_propagation.specs.Stores.{goals_of}
+use Rattle.pp_propagation.specs.Histories.{unfinished_goals}
 use Rattle.pp_propagation.specs.Runs.{End as Finished, yes, no, stopped}
-use Rattle.pp_propagation.specs.Replies.{status_of, answer_by, run_depth, run_turns, which_name, limit_text, syntax_text, IsTooLong, IsBuilt, IsReplyWithin, IsReplyToText}
+use Rattle.pp_propagation.specs.Replies.{status_of, answer_text, answer_of, run_depth, run_turns, which_name, limit_text, syntax_text, IsTooLong, IsBuilt, IsReplyWithin, IsReplyToText}
 use Rattle.pp_term.specs.declared.clause.Clause.{Clause}
 use Rattle.pp_term.specs.declared.pred.Pred.{Pred}
 use Rattle.pp_term.specs.declared.query.Item.{Item}
@@ -23,16 +25,18 @@ use Rattle.pp_resolve.specs.Facts.{HasNoBody}
 use Rattle.pp_read.specs.declared.program.Program.{Program}
 use Rattle.pp_read.specs.Programs.{written_of}
 use Rattle.pp_run.specs.declared.run.End.{End}
-use Rattle.pp_run.specs.declared.run.End.TheVariants as ends
 use Rattle.pp_run.specs.RunOutcomes.{end_by, query_by, Ran}
 use Rattle.pp_run.specs.Endings.{IsOrdinary}
-use Rattle.pp_run.specs.Answered.{Answers}
 use Rattle.pp_run.specs.Built.{IsOnlyGoal, HasNoOnlyGoal}
 use Rattle.pp_run.proofs.BuiltTexts.{built, no_goal, no_facts}
 
 pub ok_map : {T E : Type 0} (P Q : T → Type 0) (r : Result T E) → ((x : T) → P x → Q x) → IfOk r P → IfOk r Q
 ok_map P Q (Ok x) f h = f x h
 ok_map P Q (Err e) f h = tt
+
+pub both_ok : {T E : Type 0} (P Q R : T → Type 0) (r : Result T E) → ((x : T) → P x → Q x → R x) → IfOk r P → IfOk r Q → IfOk r R
+both_ok P Q R (Ok x) f h k = f x h k
+both_ok P Q R (Err e) f h k = tt
 
 -- ===== a text that is refused
 
@@ -59,10 +63,7 @@ module _ (text : Text) (w : Written) (store : Row) (made : ℕ) (s : Status) (b 
   abbrev Ends : End → Type 0
   Ends e = Ran (program_of w.clauses) w.query run_depth run_turns (end_by e) store made
 
-  same_store : (e : End) (h : Ends e) (stops : Bool) → store_text w.names w.query.named store [] stops ≡ store_text w.names w.query.named h.run.store h.run.unfinished stops
-  same_store e h stops = ap (λ x. store_text w.names w.query.named x [] stops) (sym h.has_store) ∙ ap (λ x. store_text w.names w.query.named h.run.store x stops) (sym h.unfinished)
-
-  replied_by : (e : End) → Writes text w → IsBuilt w → (h : Ends e) → s ≡ status_of (end_by e) → b ≡ answer_by w h.run (end_by e) → IsReplyWithin text s b
+  pub replied_by : (e : End) → Writes text w → IsBuilt w → Ends e → s ≡ status_of (end_by e) → b ≡ answer_text w.names w.query.named store [] (end_by e) → IsReplyWithin text s b
   replied_by e writes is h t u = inr (inr (inr (record {
     written = w;
     writes = writes;
@@ -70,13 +71,12 @@ module _ (text : Text) (w : Written) (store : Row) (made : ℕ) (s : Status) (b 
     run = h.run;
     is_run = h.is_run;
     ends = t ∙ ap status_of (sym h.ends);
-    says = u ∙ ap (answer_by w h.run) (sym h.ends);
+    says =
+        u
+        ∙ ap (λ x. answer_text w.names w.query.named x [] (end_by e)) (sym h.has_store)
+        ∙ ap (λ ks. answer_text w.names w.query.named h.run.store ks (end_by e)) (sym h.unfinished)
+        ∙ ap (answer_text w.names w.query.named h.run.store (unfinished_goals (length (goals_of w.query.items)) h.run.history)) (sym h.ends);
   })))
-
-  replied_with : (e : End) → Writes text w → IsBuilt w → Ends e → Answers w.names w.query.named e store s b → IsReplyWithin text s b
-  replied_with ends.No f is h a = replied_by ends.No f is h a.0 a.1
-  replied_with ends.Yes f is h a = replied_by ends.Yes f is h a.0 (a.1 ∙ same_store ends.Yes h false)
-  replied_with ends.Stopped f is h a = replied_by ends.Stopped f is h a.0 (a.1 ∙ same_store ends.Stopped h true)
 
 -- ===== in the words that the code has for a program
 
@@ -88,13 +88,13 @@ module _ (p : Program) (clauses : List Clause) (items : List Item) (same_clauses
   no_facts_reply none t text = unbuilt text s b (written_of p) (no_facts p (subst (λ cs. All HasNoBody cs → ⊥) same_clauses none)) t
 
   -- the run of a query of one goal over facts, and its answer
-  pub run_reply : (q : Pred) (ts : List (Tree ℕ)) (e : End) (store : Row) (made : ℕ) → IsOnlyGoal items q ts → All HasNoBody clauses → ((named : List Text) → Ran (program clauses) (query_by p.query.vars named (predicate_of q) ts) run_depth run_turns (end_by e) store made) → Answers p.names (map (name_at p.names) p.query.named) e store s b → (text : Text) → Writes text (written_of p) → IsReplyWithin text s b
-  run_reply q ts e store made asks facts ran a text writes =
+  pub run_reply : (q : Pred) (ts : List (Tree ℕ)) (e : End) (store : Row) (made : ℕ) → IsOnlyGoal items q ts → All HasNoBody clauses → ((named : List Text) → Ran (program clauses) (query_by p.query.vars named (predicate_of q) ts) run_depth run_turns (end_by e) store made) → s ≡ status_of (end_by e) → b ≡ answer_text p.names (map (name_at p.names) p.query.named) store [] (end_by e) → (text : Text) → Writes text (written_of p) → IsReplyWithin text s b
+  run_reply q ts e store made asks facts ran t u text writes =
       let named = map (name_at p.names) p.query.named in
       let only : IsOnlyGoal p.query.items q ts = sym same_items ∙ asks in
       let one : Ran (program p.clauses) (query_by p.query.vars named (predicate_of q) ts) run_depth run_turns (end_by e) store made = subst (λ cs. Ran (program cs) (query_by p.query.vars named (predicate_of q) ts) run_depth run_turns (end_by e) store made) same_clauses (ran named) in
       let two : Ran (program p.clauses) (written_of p).query run_depth run_turns (end_by e) store made = subst (λ is. Ran (program p.clauses) (record { variables = p.query.vars; named = named; items = map item_of is }) run_depth run_turns (end_by e) store made) (sym only) one in
-      replied_with text (written_of p) store made s b e writes (built p q ts only (subst (All HasNoBody) same_clauses facts)) two a
+      replied_by text (written_of p) store made s b e writes (built p q ts only (subst (All HasNoBody) same_clauses facts)) two t u
 
 -- ===== the statuses of replies
 

@@ -10,7 +10,6 @@ use Rattle.pp_algebra.specs.Rows.{Domain, Domains, Pattern, Row, domain_at, IsNu
 use Rattle.pp_algebra.specs.Covers.{IsIn, Covers, MayGo}
 use Rattle.pp_algebra.specs.Canon.{has, place, firsts, canon}
 use Rattle.pp_algebra.specs.Solve.{IsSolved}
-use Rattle.pp_algebra.proofs.Bools.{nat_same, nat_is}
 use Rattle.pp_algebra.proofs.Put.{put-put, put_all-put_all, put_all-variable}
 use Rattle.pp_algebra.proofs.Order.{covers_through, may_stay, IsIn-left, IsIn-right, variables-put, variables_all-put_all}
 use Rattle.pp_algebra.proofs.Antisym.{put-agree, put_all-agree, IsIn-either, covers_antisymmetric}
@@ -18,6 +17,7 @@ use Rattle.pp_algebra.proofs.CanonLemmas.{IsSame, nat_eq-IsSame, canon-IsCanonic
 use Rattle.pp_sld.specs.Goals.{Goal, equals}
 use Rattle.pp_sld.specs.Leaves.{variables_from}
 use Rattle.pp_propagation.specs.Stores.{column, arguments_under, face, face_variables, either_domains, same_either, replaced_by, apply}
+use Rattle.pp_propagation.proofs.StoreRows.{same_either-IsSame}
 use Rattle.pp_term.specs.Columns.{trees_of, sets_of, pattern_by}
 use Rattle.pp_term.specs.Substitution.{term_at}
 use Rattle.pp_term.proofs.Numbering.{firsts-append}
@@ -76,16 +76,6 @@ kind-old n v h = sym (cond_below v n (inl v) (inr (v - n)) h)
 
 kind-new : (n w : ℕ) → kind n (n + w) ≡ inr w
 kind-new n w = sym (cond_above (n + w) n (inl (n + w)) (inr (n + w - n)) (inr w) (omega arith) (ap inr (omega arith)))
-
-same_either-itself : (x : ℕ ⊎ ℕ) → same_either x x ≡ true
-same_either-itself (inl v) = nat_same v
-same_either-itself (inr w) = nat_same w
-
-same_either-is : (x y : ℕ ⊎ ℕ) → same_either x y ≡ true → x ≡ y
-same_either-is (inl v) (inl w) h = ap inl (nat_is v w h)
-same_either-is (inl v) (inr w) h = absurd (cc)
-same_either-is (inr v) (inl w) h = absurd (cc)
-same_either-is (inr v) (inr w) h = ap inr (nat_is v w h)
 
 domain_at-left : (ds es : List (Option Domain)) (v : ℕ) → v < length ds → domain_at (ds ++ es) v ≡ domain_at ds v
 domain_at-left [] es v h = absurd (omega (arith, h))
@@ -154,7 +144,7 @@ module _ (store given : Row) (vs : List ℕ) (canonical : IsNumbered 0 (variable
   applied =
       ap (λ ts. canon nat_eq (record { columns = ts; domains = domain_at (store.domains ++ given.domains) }))
       (sym (put_all-put_all (λ x. variable (number n x)) (replaced_by given vs) store.columns ∙ put_all-agree (λ v. put (λ x. variable (number n x)) (replaced_by given vs v)) (replacement n vs given.columns) store.columns (λ v i. renumbered-is v)))
-      ∙ canon_renamed same_either (record { itself = same_either-itself; is = same_either-is }) (number n) (kind n) replaced (domain_at (store.domains ++ given.domains)) taken_back same_domain
+      ∙ canon_renamed same_either same_either-IsSame (number n) (kind n) replaced (domain_at (store.domains ++ given.domains)) taken_back same_domain
 
 -- ===== lists of terms, as the code has them
 

@@ -2,5 +2,4 @@ pub mod Endings
 pub mod Refusals
 pub mod RunStores
 pub mod RunOutcomes
-pub mod Answered
 pub mod Built

@@ -1,18 +1,28 @@
 -- The run of a query of one goal with `most`, and what its outcome shows: how it ended, its store, and how many turns it made.
-use Rattle.std.specs.Prelude.{◌≡◌, ℕ, List, [], ◌∷◌}
+use Rattle.std.specs.Prelude.{◌≡◌, ℕ, List, [], ◌∷◌, length, None}
 use Rattle.pp_algebra.specs.Terms.{Tree, count}
-use Rattle.pp_algebra.specs.Rows.{Row}
+use Rattle.pp_algebra.specs.Rows.{Pattern, Row}
 use Rattle.pp_sld.specs.Goals.{Predicate, user, Program}
-use Rattle.pp_sld.specs.Verdicts.{most, Verdict, fail, same, narrow}
+use Rattle.pp_sld.specs.Leaves.{variables_from}
+use Rattle.pp_sld.specs.Verdicts.{most, Verdict, fail, same, narrow, HasVerdict}
 use Rattle.pp_language.specs.Texts.{Text}
 use Rattle.pp_language.specs.Programs.{Query, infers}
-use Rattle.pp_propagation.specs.Stores.{Asked}
+use Rattle.pp_propagation.specs.Stores.{Asked, goals_of}
+use Rattle.pp_propagation.specs.Histories.{unfinished_goals}
 use Rattle.pp_propagation.specs.Runs.{End, yes, no, stopped, Run, IsRun}
 use Rattle.pp_term.specs.Columns.{trees_of}
 use Rattle.pp_run.specs.declared.run.End.{End as Ending}
 use Rattle.pp_run.specs.declared.run.End.TheVariants.{Yes, No, Stopped}
 use Rattle.pp_run.specs.declared.run.Verdict.{Verdict as Found}
 use Rattle.pp_run.specs.declared.run.Verdict.TheVariants.{Fail, Same, Narrow}
+
+-- so many variables, of which nothing is known
+abbrev pub unknown : ℕ → Pattern ℕ
+unknown n = record { columns = variables_from 0 n; domains = λ _. None }
+
+-- the verdict of an annotated goal under a face
+abbrev pub HasVerdictOf : Program → ℕ → Asked → Row → Verdict → Type 0
+HasVerdictOf clauses depth a under v = HasVerdict clauses depth a.mode a.goal.shape under v
 
 abbrev pub asked : Predicate → List (Tree ℕ) → Asked
 asked p arguments = record { goal = record { shape = user p; arguments = trees_of arguments }; mode = most }
@@ -43,5 +53,5 @@ pub record Ran (clauses : Program) (q : Query) (depth turns : ℕ) (e : End) (st
   pub is_run : IsRun clauses q depth turns run
   pub ends : run.end ≡ e
   pub has_store : run.store ≡ store
-  pub unfinished : run.unfinished ≡ []
-  pub has_made : run.turns ≡ made
+  pub unfinished : unfinished_goals (length (goals_of q.items)) run.history ≡ []
+  pub has_made : length run.history ≡ made

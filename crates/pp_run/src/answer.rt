@@ -1,7 +1,8 @@
 // The answer of a run: its status, and the bytes to be written.
-ghost use Rattle.std.specs.Prelude.{IfOk, map};
+ghost use Rattle.std.specs.Prelude.{◌≡◌, IfOk, map, []};
 ghost use Rattle.pp_language.specs.Printing.{name_at};
-ghost use Rattle.pp_run.specs.Answered.{Answers};
+ghost use Rattle.pp_propagation.specs.Replies.{status_of, answer_text};
+ghost use Rattle.pp_run.specs.RunOutcomes.{end_by};
 
 use crate::lines::NO;
 use crate::reply::Reply;
@@ -18,7 +19,9 @@ pub(crate) fn answer(
     query: &Query,
     outcome: &Outcome,
 ) -> Result<Reply, AllocError>
-    ensures { IfOk result (λ r. Answers names.now (map (name_at names.now) query.now.named) outcome.now.end outcome.now.store r.status r.bytes.items) }
+    ensures status { IfOk result (λ r. r.status ≡ status_of (end_by outcome.now.end)) }
+    ensures text { IfOk result (λ r. r.bytes.items
+        ≡ answer_text names.now (map (name_at names.now) query.now.named) outcome.now.store [] (end_by outcome.now.end)) }
 {
     let (status, stopped) = match outcome.end {
         End::No => {

@@ -1,13 +1,14 @@
 // The run of a query of one goal with `most` over facts: no goal is ever left unfinished, since facts end every search.
 ghost use Rattle.std.specs.Prelude.{◌≡◌, ℕ, suc, List, All, IfOk, length};
-ghost use Rattle.pp_algebra.specs.Terms.{Tree, count};
+ghost use Rattle.pp_algebra.specs.Terms.{count};
+ghost use Rattle.pp_sld.specs.Goals.{user};
+ghost use Rattle.pp_sld.specs.Verdicts.{most, HasVerdict};
 ghost use Rattle.pp_language.specs.Texts.{Text};
-ghost use Rattle.pp_propagation.specs.Turns.{HasVerdict};
 ghost use Rattle.pp_propagation.specs.Replies.{run_depth};
 ghost use Rattle.pp_term.specs.Meanings.{predicate_of, program};
 ghost use Rattle.pp_term.specs.WellFormed.{AreBelow, IsClause};
 ghost use Rattle.pp_resolve.specs.Facts.{HasNoBody};
-ghost use Rattle.pp_run.specs.RunOutcomes.{asked, query_by, verdict_by, IsOfWidth, end_by, Ran};
+ghost use Rattle.pp_run.specs.RunOutcomes.{query_by, verdict_by, IsOfWidth, end_by, Ran};
 
 use crate::store::{apply, face, opening};
 use pp_resolve::{first_answers, first_least};
@@ -43,8 +44,8 @@ fn infer(alloc: Global, facts: &[Clause], pred: Pred, face: &Row) -> Result<Verd
     requires clauses { All IsClause facts.now }
     requires facts { All HasNoBody facts.now }
     requires arity { count face.now.columns ≡ pred.arity }
-    ensures verdict { IfOk result (λ v. (depth : ℕ) (arguments : List (Tree ℕ)) →
-        HasVerdict (program facts.now) (suc depth) (asked (predicate_of pred) arguments) face.now (verdict_by v)) }
+    ensures verdict { IfOk result (λ v. (depth : ℕ) →
+        HasVerdict (program facts.now) (suc depth) most (user (predicate_of pred)) face.now (verdict_by v)) }
     ensures width { IfOk result (λ v. IsOfWidth (length face.now.domains) v) }
 {
     let answers = first_answers(alloc, facts, pred, face)?;

@@ -1,7 +1,7 @@
 use Rattle.std.proofs.Common.{refl}
 use Rattle.pp_run.proofs.OneWord.{not_so}
 use Rattle.pp_run.proofs.BuiltTexts.{goal_below}
-use Rattle.pp_run.proofs.Replying.{ok_map, no_goal_reply, no_facts_reply, run_reply}
+use Rattle.pp_run.proofs.Replying.{ok_map, both_ok, no_goal_reply, no_facts_reply, run_reply}
 use Rattle.pp_run.proofs.reply.reply_of.Goals as goal
 
 pub returns-in_default : goal.returns-in_default
@@ -18,4 +18,4 @@ run-requires-clause-below c = goal_below c.args.program.now.query c.as_slice.res
 pub returns : goal.returns
 returns c =
     let o = c.in_ok-outcome.outcome in
-    ok_map _ _ c.answer.result (λ r a. run_reply c.args.program.now c.as_slice-clauses.result.now c.as_slice.result.now c.as_slice-clauses.ensures c.as_slice.ensures r.status r.bytes.items c.in-Some.pred c.in-Some.arguments.now o.end o.store o.turns c.in-Some.ensures (c.are_facts.ensures.0 c.if-not-are_facts.false) c.in_ok-outcome.ensures.ran a) c.answer.ensures
+    both_ok _ _ _ c.answer.result (λ r t u. run_reply c.args.program.now c.as_slice-clauses.result.now c.as_slice.result.now c.as_slice-clauses.ensures c.as_slice.ensures r.status r.bytes.items c.in-Some.pred c.in-Some.arguments.now o.end o.store o.turns c.in-Some.ensures (c.are_facts.ensures.0 c.if-not-are_facts.false) c.in_ok-outcome.ensures.ran t u) c.answer.ensures.status c.answer.ensures.text

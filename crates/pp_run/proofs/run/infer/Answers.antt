@@ -15,13 +15,13 @@ returns-then-same-clause-verdict c =
     let A = c.in_ok-answers.answers.items in
     let e : least_list A ≡ Some c.in-Some.given = ap least_list (sym c.deref.ensures.value) ∙ sym c.in_ok-given.ensures.least ∙ c.in-Some.is in
     let f : c.in-Some.given ≡ call c.args.face.now = c.same.ensures.0 c.if-same.true ∙ c.in_ok-call.ensures in
-    λ depth arguments. has_verdict (program c.args.facts.now) (suc depth) (predicate_of c.args.pred) arguments c.args.face.now A same (c.in_ok-answers.ensures.answers depth) (stays (call c.args.face.now) A c.in-Some.given e f)
+    λ depth. has_verdict (program c.args.facts.now) (suc depth) (predicate_of c.args.pred) c.args.face.now A same (c.in_ok-answers.ensures.answers depth) (stays (call c.args.face.now) A c.in-Some.given e f)
 
 pub returns-clause-verdict : goal.returns-clause-verdict
 returns-clause-verdict c =
     let A = c.in_ok-answers.answers.items in
     let e : least_list A ≡ Some c.in-Some.given = ap least_list (sym c.deref.ensures.value) ∙ sym c.in_ok-given.ensures.least ∙ c.in-Some.is in
-    λ depth arguments. has_verdict (program c.args.facts.now) (suc depth) (predicate_of c.args.pred) arguments c.args.face.now A (narrow c.in-Some.given) (c.in_ok-answers.ensures.answers depth) (narrows (call c.args.face.now) A c.in-Some.given e (λ f. let t : c.same.result ≡ true = c.same.ensures.1 (f ∙ sym c.in_ok-call.ensures) in cc (t, c.if-same.false)))
+    λ depth. has_verdict (program c.args.facts.now) (suc depth) (predicate_of c.args.pred) c.args.face.now A (narrow c.in-Some.given) (c.in_ok-answers.ensures.answers depth) (narrows (call c.args.face.now) A c.in-Some.given e (λ f. let t : c.same.result ≡ true = c.same.ensures.1 (f ∙ sym c.in_ok-call.ensures) in cc (t, c.if-same.false)))
 
 pub returns-clause-width : goal.returns-clause-width
 returns-clause-width c =

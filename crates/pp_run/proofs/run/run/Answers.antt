@@ -1,4 +1,4 @@
-use Rattle.std.proofs.Common.{◌≡◌, ◌<◌, length, true, arith, ap, sym, ◌∙◌, subst, refl}
+use Rattle.std.proofs.Common.{◌≡◌, ◌<◌, [], length, true, arith, ap, sym, ◌∙◌, subst, refl}
 use Rattle.pp_algebra.specs.Terms.{count}
 use Rattle.pp_sld.specs.Verdicts.{fail, same, narrow}
 use Rattle.pp_propagation.specs.Stores.{face_variables}
@@ -7,7 +7,8 @@ use Rattle.pp_propagation.specs.Replies.{run_depth}
 use Rattle.pp_term.specs.Meanings.{predicate_of, program}
 use Rattle.pp_run.specs.RunOutcomes.{asked, query_by, verdict_by, IsOfWidth, Ran}
 use Rattle.pp_run.proofs.StoreRows.{count-trees_of, goal_with}
-use Rattle.pp_run.proofs.FirstRuns.{begun, stops, fails_now, stays_now, rests_at, wakes_at, under_store, face-count, face-variables, apply-count, opening-count}
+use Rattle.pp_run.proofs.FirstRuns.{begun, stops, fails_now, stays_now, rests_now, wakes_now, under_store, opening-count}
+use Rattle.pp_propagation.proofs.StoreRows.{face-count, face-variables, apply-count}
 use Rattle.pp_run.proofs.run.run.Goals as goal
 
 pub face-requires : goal.face-requires
@@ -15,7 +16,7 @@ face-requires c = λ v i. subst (λ m. v < m) (sym (opening-count c.args.variabl
 
 pub loop-turn-init : goal.loop-turn-init
 loop-turn-init c = record {
-  between = λ named. begun (program c.args.facts.now) c.args.variables named (predicate_of c.args.pred) c.args.arguments.now run_depth c.args.turns c.in_ok-store.store c.in_ok-store.ensures;
+  between = begun (program c.args.facts.now) c.args.variables (predicate_of c.args.pred) c.args.arguments.now run_depth c.in_ok-store.store c.in_ok-store.ensures;
   under = c.in_ok-under.ensures;
   width = opening-count c.args.variables c.in_ok-store.store c.in_ok-store.ensures;
 }
@@ -29,16 +30,16 @@ pub returns-in-Fail : goal.returns-in-Fail
 returns-in-Fail c = record {
   ran = λ named.
       let a = asked (predicate_of c.args.pred) c.args.arguments.now in
-      let h = under_store (program c.args.facts.now) run_depth a c.loop-turn.store c.loop-turn.under _ fail (c.in_ok-infer.ensures.verdict 999 c.args.arguments.now) (c.loop-turn.invariant.under a.goal refl) (ap verdict_by c.in-Fail.is) in
-      fails_now (program c.args.facts.now) c.args.variables named (predicate_of c.args.pred) c.args.arguments.now run_depth c.args.turns c.loop-turn.store c.loop-turn.turn c.loop-turn-test.true (c.loop-turn.invariant.between named) h;
+      let h = under_store (program c.args.facts.now) run_depth a c.loop-turn.store c.loop-turn.under _ fail (c.in_ok-infer.ensures.verdict 999) (c.loop-turn.invariant.under a.goal refl) (ap verdict_by c.in-Fail.is) in
+      fails_now (program c.args.facts.now) c.args.variables (predicate_of c.args.pred) c.args.arguments.now run_depth named c.args.turns c.loop-turn.store c.loop-turn.turn c.loop-turn-test.true c.loop-turn.invariant.between h;
 }
 
 pub returns-in-Same : goal.returns-in-Same
 returns-in-Same c = record {
   ran = λ named.
       let a = asked (predicate_of c.args.pred) c.args.arguments.now in
-      let h = under_store (program c.args.facts.now) run_depth a c.loop-turn.store c.loop-turn.under _ same (c.in_ok-infer.ensures.verdict 999 c.args.arguments.now) (c.loop-turn.invariant.under a.goal refl) (ap verdict_by c.in-Same.is) in
-      stays_now (program c.args.facts.now) c.args.variables named (predicate_of c.args.pred) c.args.arguments.now run_depth c.args.turns c.loop-turn.store c.loop-turn.turn c.loop-turn-test.true (c.loop-turn.invariant.between named) h;
+      let h = under_store (program c.args.facts.now) run_depth a c.loop-turn.store c.loop-turn.under _ same (c.in_ok-infer.ensures.verdict 999) (c.loop-turn.invariant.under a.goal refl) (ap verdict_by c.in-Same.is) in
+      stays_now (program c.args.facts.now) c.args.variables (predicate_of c.args.pred) c.args.arguments.now run_depth named c.args.turns c.loop-turn.store c.loop-turn.turn c.loop-turn-test.true c.loop-turn.invariant.between h;
 }
 
 pub apply-requires-clause-below : goal.apply-requires-clause-below
@@ -61,8 +62,8 @@ returns-then-same c = record {
   ran = λ named.
       let a = asked (predicate_of c.args.pred) c.args.arguments.now in
       let f = c.loop-turn.invariant.under a.goal refl in
-      let h = under_store (program c.args.facts.now) run_depth a c.loop-turn.store c.loop-turn.under _ (narrow c.in-Narrow.given) (c.in_ok-infer.ensures.verdict 999 c.args.arguments.now) f (ap verdict_by c.in-Narrow.is) in
-      rests_at (program c.args.facts.now) c.args.variables named (predicate_of c.args.pred) c.args.arguments.now run_depth c.args.turns c.loop-turn.store c.loop-turn.turn c.loop-turn-test.true (c.loop-turn.invariant.between named) c.in-Narrow.given h
+      let h = under_store (program c.args.facts.now) run_depth a c.loop-turn.store c.loop-turn.under _ (narrow c.in-Narrow.given) (c.in_ok-infer.ensures.verdict 999) f (ap verdict_by c.in-Narrow.is) in
+      rests_now (program c.args.facts.now) c.args.variables (predicate_of c.args.pred) c.args.arguments.now run_depth named c.args.turns c.loop-turn.store c.loop-turn.turn c.loop-turn-test.true c.loop-turn.invariant.between c.in-Narrow.given h
       c.in_ok-store-2.store c.loop-turn.under c.in_ok-narrowed.narrowed (c.in_ok-store-2.ensures a.goal refl) f (c.in_ok-narrowed.ensures a.goal refl) (c.same.ensures.0 c.if-same.true);
 }
 
@@ -70,10 +71,10 @@ pub loop-turn-preserved : goal.loop-turn-preserved
 loop-turn-preserved c =
     let a = asked (predicate_of c.args.pred) c.args.arguments.now in
     let f = c.loop-turn.invariant.under a.goal refl in
-    let h = under_store (program c.args.facts.now) run_depth a c.loop-turn.store c.loop-turn.under _ (narrow c.in-Narrow.given) (c.in_ok-infer.ensures.verdict 999 c.args.arguments.now) f (ap verdict_by c.in-Narrow.is) in
+    let h = under_store (program c.args.facts.now) run_depth a c.loop-turn.store c.loop-turn.under _ (narrow c.in-Narrow.given) (c.in_ok-infer.ensures.verdict 999) f (ap verdict_by c.in-Narrow.is) in
     record {
-      between = λ named.
-          wakes_at (program c.args.facts.now) c.args.variables named (predicate_of c.args.pred) c.args.arguments.now run_depth c.args.turns c.loop-turn.store c.loop-turn.turn c.loop-turn-test.true (c.loop-turn.invariant.between named) c.in-Narrow.given h
+      between =
+          wakes_now (program c.args.facts.now) c.args.variables (predicate_of c.args.pred) c.args.arguments.now run_depth [] c.args.turns c.loop-turn.store c.loop-turn.turn c.loop-turn-test.true c.loop-turn.invariant.between c.in-Narrow.given h
           c.in_ok-store-2.store c.loop-turn.under c.in_ok-narrowed.narrowed (c.in_ok-store-2.ensures a.goal refl) f (c.in_ok-narrowed.ensures a.goal refl) (λ e. let t : c.same.result ≡ true = c.same.ensures.1 e in cc (t, c.if-same.false));
       under = c.in_ok-narrowed.ensures;
       width = ap (λ r. count r.columns) (c.in_ok-store-2.ensures a.goal refl) ∙ apply-count c.loop-turn.store a.goal c.in-Narrow.given ∙ c.loop-turn.invariant.width;
@@ -83,5 +84,5 @@ pub returns : goal.returns
 returns c = record {
   ran = λ named.
       let e : c.loop-turn.turn ≡ c.args.turns = omega arith in
-      subst (Ran (program c.args.facts.now) (query_by c.args.variables named (predicate_of c.args.pred) c.args.arguments.now) run_depth c.args.turns stopped c.loop-turn.store) e (stops (program c.args.facts.now) c.args.variables named (predicate_of c.args.pred) c.args.arguments.now run_depth c.args.turns c.loop-turn.store c.loop-turn.turn e (c.loop-turn.invariant.between named));
+      subst (Ran (program c.args.facts.now) (query_by c.args.variables named (predicate_of c.args.pred) c.args.arguments.now) run_depth c.args.turns stopped c.loop-turn.store) e (stops (program c.args.facts.now) c.args.variables (predicate_of c.args.pred) c.args.arguments.now run_depth named c.args.turns c.loop-turn.store c.loop-turn.turn e c.loop-turn.invariant.between);
 }
