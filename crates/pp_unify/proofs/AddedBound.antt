@@ -1,6 +1,14 @@
 -- The row with one variable more, which is bound.
 use Rattle.std.proofs.Common.{◌≡◌, ℕ, ℤ, suc, ◌+◌, ◌<◌, List, [], ◌∷◌, ◌++◌, true, length, map, Option, Some, None, refl, ap, sym, ◌∙◌, subst, inl, inr, arith, append-nil, length-append}
-use Rattle.std.specs.Prelude.{nat_eq, slice_set}
+use Rattle.std.proofs.Common.{zero}
+use Rattle.std.specs.Prelude.{nat_eq, slice_set, ◌↔◌}
+use Rattle.pp_algebra.specs.Covers.{MayGo}
+use Rattle.pp_algebra.specs.Solve.{equation}
+use Rattle.pp_unify.specs.Values.{term_at}
+use Rattle.pp_unify.specs.Soundness.{IsPlace}
+use Rattle.pp_unify.specs.Agreement.{Says, Follows}
+use Rattle.pp_unify.proofs.Assigning.{assigned, any_allows}
+use Rattle.pp_unify.proofs.Equations.{AgreeAlike, verdict_same}
 use Rattle.std.proofs.lemmas.List.{get_or_append_left}
 use Rattle.std.proofs.Math.Seq.{get_or-append_seam, set-append_seam}
 use Rattle.pp_algebra.specs.Terms.{Tree, variable, Trees, none, more, put, put_all, variables, variables_all}
@@ -13,6 +21,7 @@ use Rattle.pp_sld.specs.Leaves.{variables_from}
 use Rattle.pp_term.specs.Reading.{join}
 use Rattle.pp_term.proofs.Numbering.{firsts-append}
 use Rattle.pp_unify.specs.declared.state.Slot.TheVariants as slots
+use Rattle.pp_unify.specs.declared.state.Slot.{Slot}
 use Rattle.pp_unify.specs.declared.state.Value.{Value}
 use Rattle.pp_unify.specs.declared.state.Value.TheVariants.{Variable, Int, Atom, Compound}
 use Rattle.pp_unify.specs.declared.state.Entry.TheVariants.{Bound}
@@ -64,6 +73,12 @@ added_free old mid a = record {
 pub added_binding : (old mid new : State) (x : ℕ) (c : Value) → x ≡ length old.slots.items → IsGood mid → IsAdded old mid None → IsChange mid new (Bound x None) (slot_set (store_of mid) x (slot_of c)) → IsBinding mid new (length old.slots.items) None c
 added_binding old mid new x c e g a h = subst (λ y. IsBinding mid new y None c) e (record { good = g; free = subst (λ y. IsFree (store_of mid) y None) (sym e) (added_free old mid a); change = h })
 
+free_more : (ss : List Slot) (v : ℕ) → slot_at (ss ++ slots.Free None ∷ []) v ≡ slot_at ss v
+free_more [] zero = refl
+free_more [] (suc v) = refl
+free_more (x ∷ ss) zero = refl
+free_more (x ∷ ss) (suc v) = free_more ss v
+
 -- and then bound
 module _ (old mid new : State) (c : Value) (g : IsGood old) (n : IsNow (store_of old) c) (a : IsAdded old mid None) (b : IsBinding mid new (length old.slots.items) None c) where
   abbrev last : ℕ
@@ -98,6 +113,32 @@ module _ (old mid new : State) (c : Value) (g : IsGood old) (n : IsNow (store_of
     same = stays;
     last = becomes;
   }
+
+  says_added : (ds : Domains ℕ) (s : ℕ → Tree ℕ) (v : ℕ) (k : Slot) → slot_at old.slots.items v ≡ k → Says (store_of old) ds s v k ↔ Says (store_of mid) ds s v k
+  says_added ds s v (slots.Free d) e =
+      let m : domain_by mid.domains.items d ≡ domain_by old.domains.items d = ap (λ es. domain_by es d) a.domains.1 ∙ more_slot old.domains.items a.domains.0 (slots.Free d) (λ x f. subst (IsPlace old.domains.items) (cc) (g.linked.free v d e)) in
+      ((λ x. subst (λ z. MayGo ds z (s v)) (sym m) x), λ x. subst (λ z. MayGo ds z (s v)) m x)
+  says_added ds s v (slots.Alias w) e = ((λ x. x), λ x. x)
+  says_added ds s v (slots.Int n) e = ((λ x. x), λ x. x)
+  says_added ds s v (slots.Atom n) e = ((λ x. x), λ x. x)
+  says_added ds s v (slots.Compound p) e = let t = ap (λ cs. put s (term_at cs p)) a.heap in ((λ x. x ∙ sym t), λ x. x ∙ t)
+
+  slot_stays : (v : ℕ) → slot_at mid.slots.items v ≡ slot_at old.slots.items v
+  slot_stays v = ap (λ ss. slot_at ss v) a.slots ∙ ap (λ d. slot_at (old.slots.items ++ slots.Free d ∷ []) v) (no_place mid.domains.items a.place a.domain) ∙ free_more old.slots.items v
+
+  -- a free variable more says nothing
+  alike_added : AgreeAlike old mid
+  alike_added ds s = (
+    (λ x v. subst (Says (store_of mid) ds s v) (sym (slot_stays v)) ((says_added ds s v (slot_at old.slots.items v) refl).0 (x v))),
+    λ x v. (says_added ds s v (slot_at old.slots.items v) refl).1 (subst (Says (store_of mid) ds s v) (slot_stays v) (x v)),
+  )
+
+  -- and then it is that value, with no occurs check
+  pub added_follows : Follows old new (equation (variable last) (value_term old.heap.items c))
+  added_follows =
+      let not_in : IsIn last (variables (put (solution mid) (value_term mid.heap.items c))) → ⊥ = λ i. not_below (put (solution old) (value_term old.heap.items c)) below (subst (λ t. IsIn last (variables t)) value_same i) in
+      let f = (assigned mid new last None c b (any_allows mid last None c refl not_in)).follows in
+      verdict_same old mid new (variable last) (value_term old.heap.items c) (variable last) (value_term mid.heap.items c) true alike_added (λ ds s x. refl) (λ ds s x. ap (λ cs. put s (value_term cs c)) (sym a.heap)) f
 
 firsts_old : (seen vs : List ℕ) → ((w : ℕ) → IsIn w vs → has nat_eq seen w ≡ true) → firsts nat_eq seen vs ≡ seen
 firsts_old seen [] h = refl

@@ -43,7 +43,7 @@ int_at heap p n f l e = int_term (term_at heap p) n (term_cell heap p f l ∙ e)
 pub atom_at : (heap : List Cell) (p a : ℕ) → IsForest heap → p < length heap → cell_at heap p ≡ Atom a → term_at heap p ≡ node a none
 atom_at heap p a f l e = atom_term (term_at heap p) a (term_cell heap p f l ∙ e)
 
-stack_append : (heap cells : List Cell) → IsForest heap → IsForest cells → stack (heap ++ cells) ≡ Some (join (forest heap) (forest cells))
+pub stack_append : (heap cells : List Cell) → IsForest heap → IsForest cells → stack (heap ++ cells) ≡ Some (join (forest heap) (forest cells))
 stack_append heap cells f g = ap (λ (l : List Cell). stack (l ++ cells)) (sym (stack-is heap (forest heap) f.legal f.reads)) ∙ stack-cells_of_all (forest heap) cells (forest cells) g.reads
 
 pub more_forest : (heap cells : List Cell) → IsForest heap → IsForest cells → IsForest (heap ++ cells)

@@ -1,5 +1,6 @@
 -- Terms are put to the heap, and variables are added.
 use Rattle.std.proofs.Common.{◌≡◌, ℕ, zero, suc, ◌+◌, ◌-◌, ◌<◌, ◌≤◌, ◌^◌, pos, List, [], ◌∷◌, ◌++◌, length, Option, None, refl, ap, sym, ◌∙◌, subst, inl, inr, arith, append-nil, length-append}
+use Rattle.std.proofs.Common.{replicate}
 use Rattle.std.proofs.Math.Seq.{take-append_seam}
 use Rattle.std.proofs.lemmas.List.{get_or-append-add, get_or_append_left}
 use Rattle.std.proofs.lemmas.List.Elements.{All-nil}
@@ -157,3 +158,8 @@ added_entry old new n g e c =
       store = c.store ∙ ap (λ x. let r : Store = record { heap = old.heap.items; domains = old.domains.items; slots = x } in r) (sym (append-nil old.slots.items));
       entries = c.entries;
     })
+
+pub free_slots : (st : Store) (k : ℕ) → AreFree st (replicate k (Free None))
+free_slots st zero v = (None, refl, tt)
+free_slots st (suc k) zero = (None, refl, tt)
+free_slots st (suc k) (suc v) = free_slots st k v

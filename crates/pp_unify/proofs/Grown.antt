@@ -21,7 +21,7 @@ use Rattle.pp_unify.specs.States.{counted_from}
 use Rattle.pp_unify.specs.Tops.{IsAmong}
 
 -- the cells of one term
-reads_one : (t : Tree ℕ) → stack (cells_of t) ≡ Some (more t none)
+pub reads_one : (t : Tree ℕ) → stack (cells_of t) ≡ Some (more t none)
 reads_one t = ap stack (sym (append-nil (cells_of t))) ∙ stack-cells_of t [] none refl
 
 pub forest_cells : (t : Tree ℕ) (cs : List Cell) → cs ≡ cells_of t → IsTerm t → IsForest cs

@@ -38,3 +38,4 @@ pub mod Givens
 pub mod InPlace
 pub mod Turns
 pub mod Overs
+pub mod HeadSteps

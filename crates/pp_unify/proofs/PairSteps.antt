@@ -95,7 +95,7 @@ opened_less heap k s ws qs ks t u p q f l m h g a b w e =
     let j = ap size b in
     weight-less k _ _ (omega (arith, x.size, y.size))
 
-named : (f g : ℕ) (ts us : Trees ℕ) → cell_of (node f ts) ≡ cell_of (node g us) → f ≡ g
+pub named : (f g : ℕ) (ts us : Trees ℕ) → cell_of (node f ts) ≡ cell_of (node g us) → f ≡ g
 named f g none none e = cc
 named f g none (more u us) e = absurd (cc)
 named f g (more t ts) none e = absurd (cc)

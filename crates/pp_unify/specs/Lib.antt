@@ -8,3 +8,4 @@ pub mod States
 pub mod Writing
 pub mod Tops
 pub mod Laws
+pub mod Heads

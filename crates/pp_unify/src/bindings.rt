@@ -1,6 +1,6 @@
 //! Bindings, as a caller sees them.
 ghost use Rattle.std.specs.Prelude.{◌≡◌, suc, ◌<◌, [], ◌∷◌, length, take, IfOk, All, option_map};
-ghost use Rattle.pp_algebra.specs.Rows.{IsWide};
+ghost use Rattle.pp_algebra.specs.Rows.{IsWide, IsRow};
 ghost use Rattle.pp_algebra.specs.Solve.{equation, membership};
 ghost use Rattle.pp_algebra.specs.Terms.{count};
 ghost use Rattle.pp_domain.specs.Sets.{set_of};
@@ -69,7 +69,8 @@ impl Bindings {
 
     /// How many variables there are.
     pub fn len(&self) -> usize
-        ensures { result ≡ count (present self.now).columns }
+        ensures count { result ≡ count (present self.now).columns }
+        ensures row { IsRow (present self.now) }
     {
         self.state.slots.len()
     }
@@ -96,25 +97,43 @@ impl Bindings {
         self.state.add_bound(value)
     }
 
-    /// Makes two terms equal, and answers false where nothing does.
+    /// Makes two terms equal, and answers false where nothing does: unification with an occurs check (Robinson, 1965).
     pub fn unify(&mut self, a: &Term, b: &Term) -> Result<bool, AllocError>
         requires left { IsOver (present self.old) a.now }
         requires right { IsOver (present self.old) b.now }
         ensures solved { IfOk result (λ b'. IsSolvedBy (present self.old) (equation (in_place (present self.old) a.now) (in_place (present self.old) b.now)) b' (present self.new)) }
         ensures kept { IsLonger self.old self.new }
     {
-        self.state.unify_terms(a, 0, b, 0)
+        self.unify_from(a, 0, b, 0)
     }
 
-    /// Makes a goal's term and a clause's term equal, and answers false where nothing does. The numbers of the
-    /// clause's variables are counted from `first`, so the clause isn't copied.
+    /// Makes a goal's term and a clause's head equal, and answers false where nothing does. The numbers of the
+    /// clause's variables are counted from `first`. The head is walked where it stands: of it, only the compounds
+    /// that a variable is bound to are copied.
     pub fn unify_head(&mut self, goal: &Term, head: &Term, first: u32) -> Result<bool, AllocError>
         requires goal { IsOver (present self.old) goal.now }
         requires head { IsOver (present self.old) (counted_from first head.now) }
         ensures solved { IfOk result (λ b. IsSolvedBy (present self.old) (equation (in_place (present self.old) goal.now) (in_place (present self.old) (counted_from first head.now))) b (present self.new)) }
         ensures kept { IsLonger self.old self.new }
     {
-        self.state.unify_terms(goal, 0, head, first)
+        self.unify_from(goal, 0, head, first)
+    }
+
+    /// Makes two terms equal, each with the numbers of its variables counted from a first one, and answers false
+    /// where nothing does. A compound `a` is copied; `b` is walked where it stands.
+    pub fn unify_from(
+        &mut self,
+        a: &Term,
+        a_first: u32,
+        b: &Term,
+        b_first: u32,
+    ) -> Result<bool, AllocError>
+        requires left { IsOver (present self.old) (counted_from a_first a.now) }
+        requires right { IsOver (present self.old) (counted_from b_first b.now) }
+        ensures solved { IfOk result (λ b'. IsSolvedBy (present self.old) (equation (in_place (present self.old) (counted_from a_first a.now)) (in_place (present self.old) (counted_from b_first b.now))) b' (present self.new)) }
+        ensures kept { IsLonger self.old self.new }
+    {
+        self.state.unify_terms(a, a_first, b, b_first)
     }
 
     /// Makes two variables equal, and answers false where nothing does.

@@ -2,6 +2,11 @@
 ghost use Rattle.std.specs.Prelude.{◌≡◌, ℕ, ◌+◌, ◌<◌, ◌≤◌, ◌^◌, ◌++◌, ◌∷◌, [], length, IfOk, OnOk, OnErr, Option, Some, None};
 ghost use Rattle.std.specs.FinSet as set;
 ghost use Rattle.pp_algebra.specs.Rows.{IsWide};
+ghost use Rattle.pp_algebra.specs.Solve.{equation};
+ghost use Rattle.pp_algebra.specs.Terms.{variable};
+ghost use Rattle.pp_unify.specs.Agreement.{Follows};
+ghost use Rattle.pp_unify.specs.Values.{value_term};
+ghost use Rattle.std.specs.Prelude.{replicate};
 ghost use Rattle.pp_term.specs.Cells.{renamed};
 ghost use Rattle.pp_term.specs.Reading.{IsForest};
 ghost use Rattle.pp_term.specs.Columns.{set_by};
@@ -35,6 +40,20 @@ fn push_shifted(out: &mut Vec<Cell>, cells: &[Cell], first: u32) -> Result<(), A
     out.reserve(cells.len())?;
     for cell in cells {
         out.push(shifted_cell(*cell, first))?;
+    }
+    Ok(())
+}
+
+/// Puts as many slots of free variables after the others.
+fn push_free(slots: &mut Vec<Slot>, count: u32) -> Result<(), AllocError>
+    ensures slots { OnOk result (slots.new.items ≡ slots.old.items ++ replicate count (Slot.Free None)) }
+    ensures err { OnErr result (slots.new.items ≡ slots.old.items) }
+{
+    slots.reserve(count as usize)?;
+    let mut left = count;
+    while left > 0 {
+        slots.push(Slot::Free(None))?;
+        left -= 1;
     }
     Ok(())
 }
@@ -134,6 +153,24 @@ impl State {
         Ok(number)
     }
 
+    /// Adds as many variables of the domain `any`, and answers the first one's number.
+    pub(crate) fn add_many(&mut self, count: u32) -> Result<u32, AllocError>
+        requires good { IsGood self.old }
+        ensures good { IsGood self.new }
+        ensures kept { IsKept self.old self.new }
+        ensures number { IfOk result (λ v. v ≡ length self.old.slots.items) }
+        ensures slots { IfOk result (λ _. self.new.slots.items ≡ self.old.slots.items ++ replicate count (Slot.Free None)) }
+        ensures same { (v : ℕ) → solution self.new v ≡ solution self.old v }
+        ensures heap { self.new.heap.items ≡ self.old.heap.items }
+        ensures domains { self.new.domains.items ≡ self.old.domains.items }
+    {
+        let number = u32::try_from(self.slots.len()).map_err(|_| AllocError)?;
+        let _end = u32::try_from(self.slots.len() + count as usize).map_err(|_| AllocError)?;
+        self.trail.push(Entry::Added(number))?;
+        push_free(&mut self.slots, count)?;
+        Ok(number)
+    }
+
     /// Adds a variable that is bound to a value, and answers its number.
     pub(crate) fn add_bound(&mut self, value: Value) -> Result<u32, AllocError>
         requires good { IsGood self.old }
@@ -142,6 +179,7 @@ impl State {
         ensures kept { IsKept self.old self.new }
         ensures number { IfOk result (λ v. v ≡ length self.old.slots.items) }
         ensures added { IfOk result (λ _. IsAddedAs self.old self.new value) }
+        ensures follows { IfOk result (λ v. Follows self.old self.new (equation (variable v) (value_term self.old.heap.items value))) }
     {
         let number = self.add_slot(None)?;
         self.bind(number, None, value)?;

@@ -3,6 +3,7 @@
 
 mod bind;
 mod bindings;
+mod head;
 mod heap;
 mod laws;
 mod look;

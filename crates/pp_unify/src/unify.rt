@@ -175,7 +175,6 @@ impl State {
         ensures verdict { IfOk result (IsVerdict self.old self.new (equation (counted_from one_first one.now) (counted_from other_first other.now))) }
     {
         let left = self.entered(one, one_first)?;
-        let right = self.entered(other, other_first)?;
-        self.unify_values(left, right)
+        self.unify_in_place(left, other, other_first)
     }
 }
