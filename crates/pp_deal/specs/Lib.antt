@@ -1,0 +1,4 @@
+pub mod Dealt
+pub mod Hands
+pub mod Steps
+pub mod Stolen
