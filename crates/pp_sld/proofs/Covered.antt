@@ -4,8 +4,8 @@ use Rattle.pp_algebra.specs.Terms.{Tree, Trees, put_all}
 use Rattle.pp_algebra.specs.Covers.{MayGo, Covers}
 use Rattle.pp_algebra.specs.Rows.{Pattern, domain_at}
 use Rattle.pp_sld.specs.Goals.{Predicate, Goal, Clause, Program, Config, shapes, with_goals}
-use Rattle.pp_sld.specs.Selection.{Act, waits, calls, solves, never, splits, Selection, all_wait, selected, select, at_place}
-use Rattle.pp_sld.specs.Ways.{Way, Leads, old, Next, finished, stuck, barred, one, choices, call_next, act_next, select_next, goals_next, next, clause_way, built_in_way, values_of}
+use Rattle.pp_sld.specs.Selection.{Act, calls, solves, never, splits, Selection, all_wait, selected, select, at_place}
+use Rattle.pp_sld.specs.Ways.{Way, Leads, old, Next, finished, left_loose, fails, one, choices, call_next, act_next, select_next, goals_next, next, clause_way, built_in_way, values_of}
 use Rattle.pp_algebra.proofs.Put.{put_all-put_all}
 
 abbrev pub columns_of : Config → Pattern ℕ
@@ -41,8 +41,8 @@ AllOf c (w ∷ ws) = IsOf c w × AllOf c ws
 
 abbrev pub NextOf : Config → Next → Type 0
 NextOf c finished = Unit {0}
-NextOf c stuck = Unit {0}
-NextOf c barred = Unit {0}
+NextOf c left_loose = Unit {0}
+NextOf c fails = Unit {0}
 NextOf c (one w) = IsOf c w
 NextOf c (choices ws) = AllOf c ws
 
@@ -59,7 +59,6 @@ call-of clauses c before g after p zero = tt
 call-of clauses c before g after p (suc d) = clauses-of c before g after d (clauses p)
 
 act-is : (clauses : Program) (c : Config) (before : List (Goal ℕ)) (g : Goal ℕ) (after : List (Goal ℕ)) (a : Act) → NextOf c (act_next clauses c before g after a)
-act-is clauses c before g after waits = tt
 act-is clauses c before g after (calls p) = call-of clauses c before g after p c.depth
 act-is clauses c before g after (solves items) = (refl, refl)
 act-is clauses c before g after never = tt

@@ -6,14 +6,15 @@ use Rattle.pp_algebra.specs.Laws.{RowCovers}
 use Rattle.pp_algebra.proofs.Order.{covers_through, IsIn-left, IsIn-right}
 use Rattle.pp_algebra.proofs.Antisym.{IsIn-either}
 use Rattle.pp_sld.specs.Goals.{Predicate, Goal, Clause, Program, Config}
-use Rattle.pp_sld.specs.Selection.{Act, waits, calls, solves, never, splits, Selection, all_wait, selected, select, at_place}
-use Rattle.pp_sld.specs.Ways.{Way, Leads, IsDead, Next, finished, stuck, barred, one, choices, call_next, act_next, select_next, goals_next, next, clause_way, built_in_way, values_of}
+use Rattle.pp_sld.specs.Selection.{Act, calls, solves, never, splits, Selection, all_wait, selected, select, at_place}
+use Rattle.pp_sld.specs.Ways.{Way, Leads, IsDead, Next, finished, left_loose, fails, one, choices, call_next, act_next, select_next, goals_next, next, clause_way, built_in_way, values_of}
 use Rattle.pp_sld.specs.Trees.{Search, answer, loose, refused, passed, choice, Searches, no_more, child, failed, IsSearch, AreSearches}
-use Rattle.pp_sld.specs.Trace.{trace, trace_all}
+use Rattle.pp_sld.specs.Trace.{leaves, leaves_all}
 use Rattle.pp_sld.specs.Leaves.{leaf_row, answer_rows, loose_rows}
 use Rattle.pp_sld.proofs.Trees.{tree, tree-IsSearch}
 use Rattle.pp_sld.proofs.Covered.{columns_of}
-use Rattle.pp_sld.proofs.CallCovers.{answer_rows-append, loose_rows-append, AllUnder, all_under, leaf-covers}
+use Rattle.pp_sld.proofs.LeafRows.{EachRow, each-answer, each-loose, leaves-child, answer_rows-append, loose_rows-append}
+use Rattle.pp_sld.proofs.CallCovers.{IsBelow, row_below, all_below}
 
 abbrev pub at_depth : Config → ℕ → Config
 at_depth c n = record { goals = c.goals; columns = c.columns; domains = c.domains; depth = n }
@@ -31,8 +32,8 @@ AllAlike (w ∷ ws) vs = (v : Way) × (us : List Way) × (vs ≡ v ∷ us) × Al
 
 abbrev NextAlike : Next → Next → Type 0
 NextAlike finished m = m ≡ finished
-NextAlike stuck m = Unit {0}
-NextAlike barred m = m ≡ barred
+NextAlike left_loose m = Unit {0}
+NextAlike fails m = m ≡ fails
 NextAlike (one w) m = (v : Way) × (m ≡ one v) × Alike w v
 NextAlike (choices ws) m = (vs : List Way) × (m ≡ choices vs) × AllAlike ws vs
 
@@ -51,7 +52,6 @@ module _ (clauses : Program) (c : Config) (n : ℕ) (more : c.depth ≤ n) (befo
   call_alike p (suc d) (suc e) l = (map (clause_way (at_depth c n) before g after e) (clauses p), refl, clauses_alike d e (omega (arith, l)) (clauses p))
 
   act_alike : (a : Act) → NextAlike (act_next clauses c before g after a) (act_next clauses (at_depth c n) before g after a)
-  act_alike waits = tt
   act_alike (calls p) = call_alike p c.depth n more
   act_alike (solves items) = (built_in_way (at_depth c n) before after items, refl, (n, more, refl))
   act_alike never = refl
@@ -101,15 +101,15 @@ grown-both A C B D E G F H h k = (
 )
 
 abbrev pub TreeGrown : Search → Search → Type 0
-TreeGrown t u = Grown (answer_rows (trace t)) (loose_rows (trace t)) (answer_rows (trace u)) (loose_rows (trace u))
+TreeGrown t u = Grown (answer_rows (leaves t)) (loose_rows (leaves t)) (answer_rows (leaves u)) (loose_rows (leaves u))
 
 abbrev AllGrown : Searches → Searches → Type 0
-AllGrown ts us = Grown (answer_rows (trace_all ts)) (loose_rows (trace_all ts)) (answer_rows (trace_all us)) (loose_rows (trace_all us))
+AllGrown ts us = Grown (answer_rows (leaves_all ts)) (loose_rows (leaves_all ts)) (answer_rows (leaves_all us)) (loose_rows (leaves_all us))
 
 child-grown : (t u : Search) (ts us : Searches) → TreeGrown t u → AllGrown ts us → AllGrown (child t ts) (child u us)
 child-grown t u ts us h k =
-    rw (answer_rows-append (trace t) (trace_all ts), loose_rows-append (trace t) (trace_all ts), answer_rows-append (trace u) (trace_all us), loose_rows-append (trace u) (trace_all us))
-    (grown-both (answer_rows (trace t)) (loose_rows (trace t)) (answer_rows (trace u)) (loose_rows (trace u)) (answer_rows (trace_all ts)) (loose_rows (trace_all ts)) (answer_rows (trace_all us)) (loose_rows (trace_all us)) h k)
+    rw (leaves-child t ts, leaves-child u us, answer_rows-append (leaves t) (leaves_all ts), loose_rows-append (leaves t) (leaves_all ts), answer_rows-append (leaves u) (leaves_all us), loose_rows-append (leaves u) (leaves_all us))
+    (grown-both (answer_rows (leaves t)) (loose_rows (leaves t)) (answer_rows (leaves u)) (loose_rows (leaves u)) (answer_rows (leaves_all ts)) (loose_rows (leaves_all ts)) (answer_rows (leaves_all us)) (loose_rows (leaves_all us)) h k)
 
 leads_deeper : (w : Way) (n : ℕ) (d : Config) → Leads w d → Leads (way_at w n) (at_depth d n)
 leads_deeper w n d l = record { solved = l.solved; goals = l.goals; columns = l.columns; depth = refl }
@@ -118,8 +118,8 @@ leaf-at : (c : Config) (n : ℕ) → leaf_row (at_depth c n) ≡ leaf_row c
 unfolding leaf_row
 leaf-at c n = refl
 
-under-leaf : (c : Config) (n : ℕ) (rs : List Row) → AllUnder (at_depth c n) rs → (r : Row) → IsIn r rs → Under r (leaf_row c ∷ [])
-under-leaf c n rs k r i = (leaf_row c, inl refl, covers_through (pattern_of (leaf_row c)) (columns_of c) (pattern_of r) (leaf-covers c) (k r i).0)
+under-leaf : (c : Config) (n : ℕ) (rs : List Row) → EachRow (IsBelow (at_depth c n)) rs → (r : Row) → IsIn r rs → Under r (leaf_row c ∷ [])
+under-leaf c n rs k r i = (leaf_row c, inl refl, row_below c r (k r i))
 
 answer-grown : (c : Config) (n : ℕ) → TreeGrown (answer c) (answer (at_depth c n))
 answer-grown c n = (
@@ -132,8 +132,9 @@ module _ (clauses : Program) where
   loose-grown : (c : Config) (n : ℕ) → TreeGrown (loose c) (tree clauses (at_depth c n))
   loose-grown c n =
       let t = tree clauses (at_depth c n) in
-      let u = all_under clauses t (at_depth c n) (tree-IsSearch clauses (at_depth c n)) in
-      ((λ r i. absurd i), (λ r i. inr (under-leaf c n (answer_rows (trace t)) u.0 r i)), (λ r i. under-leaf c n (loose_rows (trace t)) u.1 r i))
+      let u = all_below clauses t (at_depth c n) (tree-IsSearch clauses (at_depth c n)) in
+      let b = IsBelow (at_depth c n) in
+      ((λ r i. absurd i), (λ r i. inr (under-leaf c n (answer_rows (leaves t)) (each-answer b (leaves t) u) r i)), (λ r i. under-leaf c n (loose_rows (leaves t)) (each-loose b (leaves t) u) r i))
 
   abbrev Growth : Search → Config → ℕ → Type 0
   Growth t c n = (u : Search) × IsSearch clauses (at_depth c n) u × TreeGrown t u

@@ -1,5 +1,5 @@
 -- A verdict other than unfinished stays when answers and loose ends grow.
-use Rattle.std.proofs.Common.{◌≡◌, Bool, true, false, cond, List, [], ◌∷◌, ◌++◌, refl, ap, sym, ◌∙◌, subst, inl, inr}
+use Rattle.std.proofs.Common.{◌≡◌, Bool, true, false, cond, List, [], ◌∷◌, ◌++◌, Some, refl, ap, sym, ◌∙◌, subst, inl, inr}
 use Rattle.pp_algebra.specs.Terms.{count}
 use Rattle.pp_algebra.specs.Rows.{Row, IsCanonical, pattern_of}
 use Rattle.pp_algebra.specs.Covers.{IsIn}
@@ -10,11 +10,12 @@ use Rattle.pp_algebra.proofs.Order.{covers_through, IsIn-left, IsIn-right}
 use Rattle.pp_algebra.proofs.Antisym.{covers_antisymmetric, IsIn-either}
 use Rattle.pp_algebra.proofs.Law.{count-covers, least_row-IsCanonical, least_row-covers, least_row-least}
 use Rattle.pp_algebra.proofs.SameRow.{same_row-sound, same_row-itself}
-use Rattle.pp_sld.specs.Trace.{trace}
+use Rattle.pp_sld.specs.Trace.{leaves}
 use Rattle.pp_sld.specs.Leaves.{call, root, answer_rows, loose_rows}
-use Rattle.pp_sld.specs.Verdicts.{Mode, most, unique, consistent, Verdict, same, nothing, unfinished, narrow, some_row, another, verdict}
+use Rattle.pp_sld.specs.Verdicts.{Mode, most, unique, consistent, Verdict, same, nothing, unfinished, narrow, some_row, another, verdict, verdict_most, HasVerdict}
 use Rattle.pp_sld.specs.Laws.{Deepens}
-use Rattle.pp_sld.proofs.Once.{once}
+use Rattle.pp_sld.proofs.Trees.{tree, tree-IsSearch}
+use Rattle.pp_sld.proofs.OneVerdict.{verdict_of_tree, verdict_once}
 use Rattle.pp_sld.proofs.CallCovers.{leaves_under_call, call-IsCanonical}
 use Rattle.pp_sld.proofs.Deeper.{Under, Grown, grows}
 
@@ -99,9 +100,6 @@ module _ (call : Row) (canonical : IsCanonical call) where
   least-grown : (a b : Row) (A C B D : List Row) → Widths (b ∷ B) → Grown (a ∷ A) C (b ∷ B) D → RowCovers (least_row b B) (least_row a A)
   least-grown a b A C B D w g = least_row-least a A (least_row b B) (λ q i. least_row-covers b B q (g.0 q i) (width-of b q (w b (inl refl)) (w q (g.0 q i))))
 
-  abbrev outcome_most : Row → Row → Verdict
-  outcome_most g h = cond (same_row g call) same (cond (same_row g h) (narrow g) unfinished)
-
   still-same : (a : Row) (A C B D : List Row) → Widths B → Grown (a ∷ A) C B D → same_row (least_row a A) call ≡ true → verdict most call B D ≡ same
   still-same a A C [] D w g e = absurd (g.0 a (inl refl))
   still-same a A C (b ∷ B) D w g e =
@@ -123,7 +121,7 @@ module _ (call : Row) (canonical : IsCanonical call) where
       let one : least_row b B ≡ G = covers_antisymmetric (least_row b B) G (least_row-IsCanonical b B) (least_row-IsCanonical a A) low (least_row-least b B G answers) in
       let high : RowCovers (least_row b (B ++ D)) G = least_row-least a A (least_row b (B ++ D)) (λ q i. least_row-covers b (B ++ D) q (IsIn-left q (b ∷ B) D (g.0 q i)) (width-of b q (w b (inl refl)) (w q (g.0 q i)))) in
       let other : least_row b (B ++ D) ≡ G = covers_antisymmetric (least_row b (B ++ D)) G (least_row-IsCanonical b (B ++ D)) (least_row-IsCanonical a A) high (least_row-least b (B ++ D) G leaves) in
-      ap (λ z. outcome_most z (least_row b (B ++ D))) one ∙ ap (outcome_most G) other
+      ap (λ z. verdict_most call (Some z) (Some (least_row b (B ++ D)))) one ∙ ap (λ z. verdict_most call (Some G) (Some z)) other
       ∙ ap (λ z. cond z same (cond (same_row G G) (narrow G) unfinished)) e
       ∙ ap (λ z. cond z (narrow G) unfinished) (same_row-itself G)
 
@@ -146,11 +144,20 @@ module _ (call : Row) (canonical : IsCanonical call) where
   verdict-grown consistent (a ∷ A) C B D v w g h = still-consistent a A C B D g
 
 pub deepens : Deepens
-deepens clauses m shape face d e l t u h k f =
-    let r = grows clauses t (root shape face d) e l h in
-    let same_tree : r.0 ≡ u = once clauses (root shape face e) r.0 u r.1 k in
-    let g = subst (λ x. Grown (answer_rows (trace t)) (loose_rows (trace t)) (answer_rows (trace x)) (loose_rows (trace x))) same_tree r.2 in
-    verdict-grown (call face) (call-IsCanonical face) m (answer_rows (trace t)) (loose_rows (trace t)) (answer_rows (trace u)) (loose_rows (trace u))
-    (λ x i. (leaves_under_call clauses shape face d t h x i).0)
-    (λ x i. (leaves_under_call clauses shape face e u k x (IsIn-left x (answer_rows (trace u)) (loose_rows (trace u)) i)).0)
-    g f
+deepens clauses m shape face d e l v w h k f =
+    let t = tree clauses (root shape face d) in
+    let r = grows clauses t (root shape face d) e l (tree-IsSearch clauses (root shape face d)) in
+    let A = answer_rows (leaves t) in
+    let C = loose_rows (leaves t) in
+    let B = answer_rows (leaves r.0) in
+    let D = loose_rows (leaves r.0) in
+    let first : HasVerdict clauses d m shape face (verdict m (call face) A C) = verdict_of_tree clauses d m shape face t (tree-IsSearch clauses (root shape face d)) in
+    let later : HasVerdict clauses e m shape face (verdict m (call face) B D) = verdict_of_tree clauses e m shape face r.0 r.1 in
+    let i : verdict m (call face) A C ≡ v = verdict_once clauses d m shape face (verdict m (call face) A C) v first h in
+    let j : verdict m (call face) B D ≡ w = verdict_once clauses e m shape face (verdict m (call face) B D) w later k in
+    sym j
+    ∙ verdict-grown (call face) (call-IsCanonical face) m A C B D
+    (λ x n. (leaves_under_call clauses shape face d t (tree-IsSearch clauses (root shape face d)) x n).0)
+    (λ x n. (leaves_under_call clauses shape face e r.0 r.1 x (IsIn-left x B D n)).0)
+    r.2 (λ u. f (sym i ∙ u))
+    ∙ i

@@ -1,24 +1,23 @@
 -- Each configuration has a search tree.
-use Rattle.std.proofs.Common.{◌≡◌, ℕ, ℤ, zero, suc, ◌+◌, List, [], ◌∷◌, ◌++◌, map, length, Option, refl, ap, sym, ◌∙◌, subst, ◌⊎◌, inl, inr, arith, length-append}
+use Rattle.std.proofs.Common.{◌≡◌, ℕ, ℤ, zero, suc, ◌+◌, List, [], ◌∷◌, ◌++◌, map, length, Option, Some, None, refl, ap, sym, ◌∙◌, subst, ◌⊎◌, inl, inr, arith, length-append}
 use Rattle.std.proofs.Math.ListN.{length-map}
 use Rattle.pp_algebra.specs.Terms.{Tree, Trees, put_all}
 use Rattle.pp_algebra.specs.Rows.{Domain, Domains, Row, domain_at}
 use Rattle.pp_algebra.specs.Solve.{IsSolved}
 use Rattle.pp_sld.specs.Goals.{Predicate, Goal, Clause, Program, Config, put_goal, with_goals, shapes, row_of}
-use Rattle.pp_sld.specs.Selection.{Act, waits, calls, solves, never, splits, act, Selection, all_wait, selected, past, select_by, select, at_place}
-use Rattle.pp_sld.specs.Ways.{Way, pattern_of_way, Leads, around, values_of, built_in_way, clause_way, two_domains, Next, finished, stuck, barred, one, choices, call_next, act_next, select_next, goals_next, next}
+use Rattle.pp_sld.specs.Selection.{Act, calls, solves, never, splits, act, Selection, all_wait, selected, past, select_by, select, at_place}
+use Rattle.pp_sld.specs.Ways.{Way, pattern_of_way, Leads, Goes, around, values_of, built_in_way, clause_way, two_domains, Next, finished, left_loose, fails, one, choices, call_next, act_next, select_next, goals_next, next}
 use Rattle.pp_sld.specs.Trees.{Search, answer, loose, refused, passed, choice, Searches, no_more, child, failed, IsSearch, AreSearches}
-use Rattle.pp_sld.specs.Laws.{Goes}
 use Rattle.pp_algebra.specs.Covers.{MayGo}
 use Rattle.pp_algebra.specs.Solve.{Solvable}
 use Rattle.pp_algebra.proofs.Solved.{same_either, same_either-IsSame, solved_listed}
 use Rattle.pp_algebra.proofs.Put.{count-put_all}
 
-put-with_goals : {V W : Type 0} (s : V → Tree W) (gs : List (Goal V)) (ts : Trees V) → put_all s (with_goals gs ts) ≡ with_goals (map (put_goal s) gs) (put_all s ts)
+pub put-with_goals : {V W : Type 0} (s : V → Tree W) (gs : List (Goal V)) (ts : Trees V) → put_all s (with_goals gs ts) ≡ with_goals (map (put_goal s) gs) (put_all s ts)
 put-with_goals s [] ts = refl
 put-with_goals s (g ∷ gs) ts = rw (put-with_goals s gs ts) refl
 
-shapes-put : {V W : Type 0} (s : V → Tree W) (gs : List (Goal V)) → shapes (map (put_goal s) gs) ≡ shapes gs
+pub shapes-put : {V W : Type 0} (s : V → Tree W) (gs : List (Goal V)) → shapes (map (put_goal s) gs) ≡ shapes gs
 shapes-put s [] = refl
 shapes-put s (g ∷ gs) = ap (λ x. g.shape ∷ x) (shapes-put s gs)
 
@@ -55,7 +54,7 @@ way_solved w = solved_listed same_either same_either-IsSame (pattern_of_way w) w
 pub goes : (w : Way) → Goes w
 goes w = elim (way_solved w) [ inl a ↦ inl (reached w a.0 a.1, reached-leads w a.0 a.1) | inr n ↦ inr n ]
 
-shapes-length : {V : Type 0} (gs : List (Goal V)) → length (shapes gs) ≡ length gs
+pub shapes-length : {V : Type 0} (gs : List (Goal V)) → length (shapes gs) ≡ length gs
 shapes-length [] = refl
 shapes-length (g ∷ gs) = ap suc (shapes-length gs)
 
@@ -71,12 +70,9 @@ past-IsPart : (h : Goal ℕ) (gs : List (Goal ℕ)) (s : Selection) → IsPart g
 past-IsPart h gs all_wait p = tt
 past-IsPart h gs (selected before g after a) p = (ap (λ x. h ∷ x) p.0, omega (arith, p.1))
 
-select_by-IsPart : (g : Goal ℕ) (gs : List (Goal ℕ)) (s : Selection) (a : Act) → IsPart gs s → IsPart (g ∷ gs) (select_by g gs s a)
-select_by-IsPart g gs s waits p = past-IsPart g gs s p
-select_by-IsPart g gs s (calls n) p = (refl, omega arith)
-select_by-IsPart g gs s (solves is) p = (refl, omega arith)
-select_by-IsPart g gs s never p = (refl, omega arith)
-select_by-IsPart g gs s splits p = (refl, omega arith)
+select_by-IsPart : (g : Goal ℕ) (gs : List (Goal ℕ)) (s : Selection) (a : Option Act) → IsPart gs s → IsPart (g ∷ gs) (select_by g gs s a)
+select_by-IsPart g gs s None p = past-IsPart g gs s p
+select_by-IsPart g gs s (Some a) p = (refl, omega arith)
 
 pub select-IsPart : (ds : List (Option Domain)) (gs : List (Goal ℕ)) → IsPart gs (select ds gs)
 select-IsPart ds [] = tt
@@ -92,8 +88,8 @@ AllFall depth n (w ∷ ws) = Falls depth n w × AllFall depth n ws
 
 abbrev pub NextFalls : ℕ → ℕ → Next → Type 0
 NextFalls depth n finished = Unit {0}
-NextFalls depth n stuck = Unit {0}
-NextFalls depth n barred = Unit {0}
+NextFalls depth n left_loose = Unit {0}
+NextFalls depth n fails = Unit {0}
 NextFalls depth n (one w) = Falls depth n w
 NextFalls depth n (choices ws) = AllFall depth n ws
 
@@ -113,7 +109,6 @@ call-falls clauses c before g after p zero n = tt
 call-falls clauses c before g after p (suc d) n = clauses-fall c before g after d n (clauses p)
 
 act-falls : (clauses : Program) (c : Config) (before : List (Goal ℕ)) (g : Goal ℕ) (after : List (Goal ℕ)) (a : Act) (n : ℕ) → n ≡ suc (length before + length after) → NextFalls c.depth n (act_next clauses c before g after a)
-act-falls clauses c before g after waits n e = tt
 act-falls clauses c before g after (calls p) n e = call-falls clauses c before g after p c.depth n
 act-falls clauses c before g after (solves items) n e = inr (refl, omega (arith, e, around-length before after))
 act-falls clauses c before g after never n e = tt
@@ -149,8 +144,8 @@ module _ (clauses : Program) where
 
   next-has : (c : Config) (x : Next) (depth n : ℕ) → ((d : Config) → suc d.depth ≡ depth → Has clauses d) → ((d : Config) → d.depth ≡ depth → suc (length d.goals) ≡ n → Has clauses d) → next clauses c ≡ x → NextFalls depth n x → Has clauses c
   next-has c finished depth n deeper fewer e f = (answer c, (e, refl))
-  next-has c stuck depth n deeper fewer e f = (loose c, (e, refl))
-  next-has c barred depth n deeper fewer e f = (refused, inl e)
+  next-has c left_loose depth n deeper fewer e f = (loose c, (e, refl))
+  next-has c fails depth n deeper fewer e f = (refused, inl e)
   next-has c (one w) depth n deeper fewer e f =
       elim (goes w) [
         | inl a ↦ (let t = one-has depth n deeper fewer w f a.0 a.1 in (passed t.0, (w, e, a.0, a.1, t.1)))

@@ -1,10 +1,12 @@
 pub mod Once
 pub mod Exists
 pub mod Trees
+pub mod LeafRows
 pub mod OneVerdict
-pub mod Paths
+pub mod Works
+pub mod LaterWorks
+pub mod Standing
 pub mod Covered
-pub mod Reached
 pub mod Verdicts
 pub mod Settled
 pub mod Worked

@@ -9,8 +9,8 @@ use Rattle.pp_algebra.proofs.Order.{covers_itself}
 use Rattle.pp_algebra.proofs.Antisym.{covers_antisymmetric}
 use Rattle.pp_algebra.proofs.Law.{least_row-IsCanonical, least_row-covers, least_row-least}
 use Rattle.pp_algebra.proofs.SameRow.{same_row-sound, same_row-itself}
-use Rattle.pp_sld.specs.Verdicts.{Mode, most, unique, consistent, same, unfinished, narrow, some_row}
-use Rattle.pp_sld.specs.Findings.{Sole, no_row, two_rows, one_row, finds_most, finds_unique, join_sole, sole_of, finding, join_option, join_finding, outcome, outcome_most, settled}
+use Rattle.pp_sld.specs.Verdicts.{Mode, most, unique, consistent, same, unfinished, narrow, some_row, verdict_most}
+use Rattle.pp_sld.specs.Findings.{Sole, no_row, two_rows, one_row, finds_most, finds_unique, join_sole, sole_of, finding, join_option, join_finding, outcome, settled}
 
 -- a canonical row joined with what it covers is itself
 join_covered : (r q : Row) → IsCanonical r → RowCovers r q → least_row r (q ∷ []) ≡ r
@@ -24,7 +24,7 @@ join_call call [] c h = refl
 join_call call (b ∷ B) c h = ap Some (join_covered call (least_row b B) c (least_row-least b B call h))
 
 -- with a general part that is there, the outcome of the call is `same`
-is_same : (call h : Row) → outcome_most call (Some call) (Some h) ≡ same
+is_same : (call h : Row) → verdict_most call (Some call) (Some h) ≡ same
 is_same call h = ap (λ b. cond b same (cond (same_row call h) (narrow call) unfinished)) (same_row-itself call)
 
 abbrev Stays : Row → Mode → List Row → List Row → List Row → List Row → Type 0
@@ -42,8 +42,8 @@ stays_most call a A C B D e h =
     let g : join_option (Some (least_row a A)) (least_list B) ≡ Some call = ap (λ x. join_option (Some x) (least_list B)) e ∙ join_call call B c h in
     let o = join_some (least_row a (A ++ C)) (least_list (B ++ D)) in (
       ap (λ x. settled call (finds_most x (join_option (Some (least_row a (A ++ C))) (least_list (B ++ D))))) g ∙ same_row-itself call,
-      ap (λ x. outcome_most call x (join_option (Some (least_row a (A ++ C))) (least_list (B ++ D)))) g ∙ ap (outcome_most call (Some call)) o.1 ∙ is_same call o.0
-          ∙ sym (ap (λ x. outcome_most call (Some x) (Some (least_row a (A ++ C)))) e ∙ is_same call (least_row a (A ++ C))),
+      ap (λ x. verdict_most call x (join_option (Some (least_row a (A ++ C))) (least_list (B ++ D)))) g ∙ ap (verdict_most call (Some call)) o.1 ∙ is_same call o.0
+          ∙ sym (ap (λ x. verdict_most call (Some x) (Some (least_row a (A ++ C)))) e ∙ is_same call (least_row a (A ++ C))),
     )
 
 stays_unique : (call : Row) (s t : Sole) (b c : Bool) → settled call (finds_unique s b) ≡ true

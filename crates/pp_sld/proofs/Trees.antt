@@ -1,12 +1,12 @@
 -- The tree of each configuration, step by step.
-use Rattle.std.proofs.Common.{◌≡◌, ℕ, zero, suc, ◌≤◌, List, [], ◌∷◌, ◌++◌, length, refl, ap, subst, inl, inr, arith}
+use Rattle.std.proofs.Common.{◌≡◌, ℕ, zero, suc, ◌≤◌, List, [], ◌∷◌, ◌++◌, length, Some, refl, ap, subst, inl, inr, arith}
 use Rattle.pp_sld.specs.Goals.{Program, Config}
-use Rattle.pp_sld.specs.Ways.{Way, Leads, IsDead, finished, stuck, barred, one, choices, next}
+use Rattle.pp_sld.specs.Ways.{Way, Leads, IsDead, finished, left_loose, fails, one, choices, next}
 use Rattle.pp_sld.specs.Trees.{Search, answer, loose, refused, passed, choice, Searches, no_more, child, failed, IsSearch, AreSearches}
-use Rattle.pp_sld.specs.Trace.{tried, answered, left_loose, trace, trace_all}
+use Rattle.pp_sld.specs.Trace.{answers_with, loose_with, tried, ends, trace, trace_all}
 use Rattle.pp_sld.specs.Laws.{HasOneSearch}
 use Rattle.pp_sld.specs.Paths.{kids, skip}
-use Rattle.pp_sld.specs.Reach.{At}
+use Rattle.std.specs.List.{slice_get}
 use Rattle.pp_sld.proofs.Once.{once, leads_once, leads_or_dead}
 use Rattle.pp_sld.proofs.Exists.{has_search}
 
@@ -20,14 +20,14 @@ module _ (clauses : Program) where
   pub tree_is : (c : Config) (t : Search) → IsSearch clauses c t → tree c ≡ t
   tree_is c t h = once clauses c (tree c) t (tree-IsSearch c) h
 
-  pub finished_tree : (c : Config) → next clauses c ≡ finished → trace (tree c) ≡ answered c ∷ []
+  pub finished_tree : (c : Config) → next clauses c ≡ finished → trace (tree c) ≡ ends (answers_with c) ∷ []
   finished_tree c e = ap trace (tree_is c (answer c) (e, refl))
 
-  pub stuck_tree : (c : Config) → next clauses c ≡ stuck → trace (tree c) ≡ left_loose c ∷ []
-  stuck_tree c e = ap trace (tree_is c (loose c) (e, refl))
+  pub loose_tree : (c : Config) → next clauses c ≡ left_loose → trace (tree c) ≡ ends (loose_with c) ∷ []
+  loose_tree c e = ap trace (tree_is c (loose c) (e, refl))
 
-  pub barred_tree : (c : Config) → next clauses c ≡ barred → trace (tree c) ≡ tried ∷ []
-  barred_tree c e = ap trace (tree_is c refused (inl e))
+  pub fails_tree : (c : Config) → next clauses c ≡ fails → trace (tree c) ≡ tried ∷ []
+  fails_tree c e = ap trace (tree_is c refused (inl e))
 
   pub dead_tree : (c : Config) (w : Way) → next clauses c ≡ one w → IsDead w → trace (tree c) ≡ tried ∷ []
   dead_tree c w e k = ap trace (tree_is c refused (inr (w, e, k)))
@@ -59,16 +59,16 @@ module _ (clauses : Program) where
   first_fails w ws (child t ts) k h = let m : h.0 ≡ w = cc h.2 in absurd (leads_or_dead w h.3 (subst (λ x. Leads x h.3) m h.4) k)
   first_fails w ws (failed ts) k h = refl
 
-  pub goes_at : (ws : List Way) (ts : Searches) (k : ℕ) (w : Way) (d : Config) → At ws k w → Leads w d → AreSearches clauses ws ts → trace_all (skip k ts) ≡ tried ∷ (trace (tree d) ++ trace_all (skip (suc k) ts))
-  goes_at [] ts k w d a l h = absurd a
-  goes_at (v ∷ vs) ts zero w d a l h = first_goes w vs ts d l (subst (λ x. AreSearches clauses (x ∷ vs) ts) a h)
+  pub goes_at : (ws : List Way) (ts : Searches) (k : ℕ) (w : Way) (d : Config) → slice_get ws k ≡ Some w → Leads w d → AreSearches clauses ws ts → trace_all (skip k ts) ≡ tried ∷ (trace (tree d) ++ trace_all (skip (suc k) ts))
+  goes_at [] ts k w d a l h = absurd (cc a)
+  goes_at (v ∷ vs) ts zero w d a l h = first_goes w vs ts d l (let e : v ≡ w = cc a in subst (λ x. AreSearches clauses (x ∷ vs) ts) e h)
   goes_at (v ∷ vs) no_more (suc k) w d a l h = absurd (cc h)
   goes_at (v ∷ vs) (child t ts) (suc k) w d a l h = goes_at vs ts k w d a l (let m : h.1 ≡ vs = cc h.2 in subst (λ x. AreSearches clauses x ts) m h.6)
   goes_at (v ∷ vs) (failed ts) (suc k) w d a l h = goes_at vs ts k w d a l (let m : h.1 ≡ vs = cc h.2 in subst (λ x. AreSearches clauses x ts) m h.4)
 
-  pub fails_at : (ws : List Way) (ts : Searches) (k : ℕ) (w : Way) → At ws k w → IsDead w → AreSearches clauses ws ts → trace_all (skip k ts) ≡ tried ∷ trace_all (skip (suc k) ts)
-  fails_at [] ts k w a l h = absurd a
-  fails_at (v ∷ vs) ts zero w a l h = first_fails w vs ts l (subst (λ x. AreSearches clauses (x ∷ vs) ts) a h)
+  pub fails_at : (ws : List Way) (ts : Searches) (k : ℕ) (w : Way) → slice_get ws k ≡ Some w → IsDead w → AreSearches clauses ws ts → trace_all (skip k ts) ≡ tried ∷ trace_all (skip (suc k) ts)
+  fails_at [] ts k w a l h = absurd (cc a)
+  fails_at (v ∷ vs) ts zero w a l h = first_fails w vs ts l (let e : v ≡ w = cc a in subst (λ x. AreSearches clauses (x ∷ vs) ts) e h)
   fails_at (v ∷ vs) no_more (suc k) w a l h = absurd (cc h)
   fails_at (v ∷ vs) (child t ts) (suc k) w a l h = fails_at vs ts k w a l (let m : h.1 ≡ vs = cc h.2 in subst (λ x. AreSearches clauses x ts) m h.6)
   fails_at (v ∷ vs) (failed ts) (suc k) w a l h = fails_at vs ts k w a l (let m : h.1 ≡ vs = cc h.2 in subst (λ x. AreSearches clauses x ts) m h.4)

@@ -118,9 +118,7 @@ by_cases call a false false = refl
 
 -- the outcome of the finding is the verdict
 pub outcome_is : (m : Mode) (call : Row) (A C : List Row) → outcome call (finding m A C) ≡ verdict m call A C
-outcome_is most call [] [] = refl
-outcome_is most call [] (c ∷ C) = refl
-outcome_is most call (a ∷ A) C = refl
+outcome_is most call A C = refl
 outcome_is unique call [] [] = refl
 outcome_is unique call [] (c ∷ C) = refl
 outcome_is unique call (a ∷ A) C = ap (λ x. outcome_unique call x (some_row C)) (another-sole a A) ∙ by_cases call a (another a A) (some_row C)

@@ -5,17 +5,12 @@ use Rattle.pp_algebra.specs.Covers.{IsIn}
 use Rattle.pp_algebra.specs.Joins.{AllOf}
 use Rattle.pp_algebra.specs.Laws.{RowCovers}
 use Rattle.pp_sld.specs.Goals.{Shape, Program, Config}
-use Rattle.pp_sld.specs.Ways.{Way, Leads, IsDead}
+use Rattle.pp_sld.specs.Ways.{Way, Leads, Goes}
 use Rattle.pp_sld.specs.Trees.{Search, IsSearch}
-use Rattle.pp_sld.specs.Trace.{trace}
-use Rattle.pp_sld.specs.Leaves.{call, root, answer_rows, loose_rows, HasLeaves}
+use Rattle.pp_sld.specs.Trace.{leaves}
+use Rattle.pp_sld.specs.Leaves.{call, root, leaf_row, answer_rows, loose_rows, HasLeaves}
 use Rattle.pp_sld.specs.Verdicts.{Mode, Verdict, unfinished, verdict, HasVerdict}
 use Rattle.pp_sld.specs.Findings.{finding, join_finding, outcome, settled}
-use Rattle.pp_sld.specs.Paths.{Level, level, worth, at_path, AllLast, PathComesTo}
-
--- each way leads on or fails
-abbrev pub Goes : Way → Type 0
-Goes w = ((d : Config) × Leads w d) ⊎ IsDead w
 
 -- a way leads to one configuration
 abbrev pub LeadsOnce : Type 0
@@ -51,35 +46,18 @@ SettledStays = (call : Row) (m : Mode) (A C B D : List Row) → ((q : Row) → I
     → (settled call (join_finding (finding m A C) (finding m B D)) ≡ true)
     × (outcome call (join_finding (finding m A C) (finding m B D)) ≡ outcome call (finding m A C))
 
+-- the row of a configuration covers each leaf below it, which is a canonical row
+abbrev pub LeafRowCovers : Type 0
+LeafRowCovers = (clauses : Program) (c : Config) (t : Search) → IsSearch clauses c t → (r : Row) → IsIn r (answer_rows (leaves t) ++ loose_rows (leaves t)) → RowCovers (leaf_row c) r × IsCanonical r
+
 -- each answer and each loose end of a goal is a canonical row that the call covers
 abbrev pub CallCoversLeaves : Type 0
-CallCoversLeaves = (clauses : Program) (shape : Shape) (face : Row) (depth : ℕ) (t : Search) → IsSearch clauses (root shape face depth) t → (r : Row) → IsIn r (answer_rows (trace t) ++ loose_rows (trace t)) → RowCovers (call face) r × IsCanonical r
+CallCoversLeaves = (clauses : Program) (shape : Shape) (face : Row) (depth : ℕ) (t : Search) → IsSearch clauses (root shape face depth) t → (r : Row) → IsIn r (answer_rows (leaves t) ++ loose_rows (leaves t)) → RowCovers (call face) r × IsCanonical r
 
 -- and has a column for each variable of the face
-abbrev pub LeavesAreWide : Type 0
-LeavesAreWide = (clauses : Program) (shape : Shape) (face : Row) (depth : ℕ) (t : Search) → IsSearch clauses (root shape face depth) t → AllOf (length face.domains) (answer_rows (trace t) ++ loose_rows (trace t))
-
--- the verdict of a goal's search tree
-abbrev pub verdict_of : Mode → Row → Search → Verdict
-verdict_of m face t = verdict m (call face) (answer_rows (trace t)) (loose_rows (trace t))
+abbrev pub LeavesHaveWidth : Type 0
+LeavesHaveWidth = (clauses : Program) (shape : Shape) (face : Row) (depth : ℕ) (t : Search) → IsSearch clauses (root shape face depth) t → AllOf (length face.domains) (answer_rows (leaves t) ++ loose_rows (leaves t))
 
 -- a verdict other than unfinished is the verdict at each larger depth
 abbrev pub Deepens : Type 0
-Deepens = (clauses : Program) (m : Mode) (shape : Shape) (face : Row) (d e : ℕ) → d ≤ e → (t u : Search) → IsSearch clauses (root shape face d) t → IsSearch clauses (root shape face e) u
-    → (verdict_of m face t ≡ unfinished → ⊥) → verdict_of m face u ≡ verdict_of m face t
-
--- a work whose levels have no sibling left stands for its path
-abbrev pub LastIsPath : Type 0
-LastIsPath = (ls : List Level) → AllLast ls → (t : Search) → worth ls t ≡ at_path ls t
-
--- split at the shallowest level that has a sibling: the work without the siblings, and the siblings
-abbrev pub SplitKeeps : Type 0
-SplitKeeps = (es : List Level) (l : Level) (ls : List Level) → AllLast es → suc l.now < l.end → (t : Search) → worth (es ++ l ∷ ls) t ≡ worth (es ++ level l.now (suc l.now) ∷ ls) t ++ worth (es ++ level (suc l.now) l.end ∷ []) t
-
--- on to the next sibling at the deepest level that has one: what is given up is the subtree at the path alone
-abbrev pub NextKeeps : Type 0
-NextKeeps = (es : List Level) (l : Level) (ls : List Level) → AllLast ls → suc l.now < l.end → (t : Search) → worth (es ++ l ∷ ls) t ≡ at_path (es ++ l ∷ ls) t ++ worth (es ++ level (suc l.now) l.end ∷ []) t
-
--- down into a choice of n alternatives: nothing is given up
-abbrev pub DownKeeps : Type 0
-DownKeeps = (ls : List Level) (n : ℕ) → 0 < n → (t : Search) → PathComesTo n ls t → worth (ls ++ level 0 n ∷ []) t ≡ worth ls t
+Deepens = (clauses : Program) (m : Mode) (shape : Shape) (face : Row) (d e : ℕ) → d ≤ e → (v w : Verdict) → HasVerdict clauses d m shape face v → HasVerdict clauses e m shape face w → (v ≡ unfinished → ⊥) → w ≡ v

@@ -8,6 +8,9 @@ pub mod Leaves
 pub mod Verdicts
 pub mod Findings
 pub mod Paths
+pub mod Works
 pub mod Reach
 pub mod Laws
+pub mod LawsOfPaths
+pub mod LawsOfWorks
 pub mod Examples

@@ -19,9 +19,8 @@ abbrev pub givens : List (Option Domain) → Trees ℕ → List Given
 givens ds none = []
 givens ds (more t ts) = given ds t ∷ givens ds ts
 
--- what is done with a goal: it waits, or it is one of these
+-- what is done with a goal that doesn't wait
 pub data Act : Type 0 where
-  waits : Act
   calls : Predicate → Act
   solves : List (Item ℕ) → Act
   never : Act
@@ -41,20 +40,21 @@ at_place i n none = []
 at_place zero n (more t ts) = equation t (int n) ∷ []
 at_place (suc i) n (more t ts) = at_place i n ts
 
-abbrev pub act_of : Trees ℕ → Decision → Act
-act_of ts wait = waits
-act_of ts fail = never
-act_of ts hold = solves []
-act_of ts split = splits
-act_of ts (bind i n) = solves (at_place i n ts)
+-- None waits
+abbrev pub act_of : Trees ℕ → Decision → Option Act
+act_of ts wait = None
+act_of ts fail = Some never
+act_of ts hold = Some (solves [])
+act_of ts split = Some splits
+act_of ts (bind i n) = Some (solves (at_place i n ts))
 
-abbrev pub act_by : List (Option Domain) → Trees ℕ → Shape → Act
-act_by ds ts (user p) = calls p
-act_by ds ts equals = solves (both_sides ts)
-act_by ds ts (member d) = solves (first_in d ts)
+abbrev pub act_by : List (Option Domain) → Trees ℕ → Shape → Option Act
+act_by ds ts (user p) = Some (calls p)
+act_by ds ts equals = Some (solves (both_sides ts))
+act_by ds ts (member d) = Some (solves (first_in d ts))
 act_by ds ts (test t) = act_of ts (decide t (givens ds ts))
 
-abbrev pub act : List (Option Domain) → Goal ℕ → Act
+abbrev pub act : List (Option Domain) → Goal ℕ → Option Act
 act ds g = act_by ds g.arguments g.shape
 
 -- the leftmost goal that doesn't wait, between those before and those after it
@@ -66,12 +66,9 @@ abbrev pub past : Goal ℕ → Selection → Selection
 past h all_wait = all_wait
 past h (selected before g after a) = selected (h ∷ before) g after a
 
-abbrev pub select_by : Goal ℕ → List (Goal ℕ) → Selection → Act → Selection
-select_by g gs later waits = past g later
-select_by g gs later (calls p) = selected [] g gs (calls p)
-select_by g gs later (solves is) = selected [] g gs (solves is)
-select_by g gs later never = selected [] g gs never
-select_by g gs later splits = selected [] g gs splits
+abbrev pub select_by : Goal ℕ → List (Goal ℕ) → Selection → Option Act → Selection
+select_by g gs later None = past g later
+select_by g gs later (Some a) = selected [] g gs a
 
 abbrev pub select : List (Option Domain) → List (Goal ℕ) → Selection
 select ds [] = all_wait

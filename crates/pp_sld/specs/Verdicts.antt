@@ -1,8 +1,8 @@
 -- The verdict of a search in each of the three modes, from the list of its answers and the list of its loose ends.
-use Rattle.std.specs.Prelude.{◌≡◌, ℕ, Bool, true, false, cond, List, [], ◌∷◌, ◌++◌}
+use Rattle.std.specs.Prelude.{◌≡◌, ℕ, Bool, true, false, cond, List, [], ◌∷◌, ◌++◌, Option, Some, None}
 use Rattle.pp_algebra.specs.Rows.{Row}
 use Rattle.pp_algebra.specs.Canon.{same_row}
-use Rattle.pp_algebra.specs.Least.{least_row}
+use Rattle.pp_algebra.specs.Least.{least_list}
 use Rattle.pp_sld.specs.Goals.{Shape, Program}
 use Rattle.pp_sld.specs.Leaves.{call, root, HasLeaves}
 
@@ -23,11 +23,23 @@ abbrev pub another : Row → List Row → Bool
 another r [] = false
 another r (q ∷ qs) = cond (same_row r q) (another r qs) true
 
+-- what the answers have in common, and what the answers and the loose ends have in common
+abbrev pub answer_generalisation : List Row → Option Row
+answer_generalisation A = least_list A
+
+abbrev pub leaf_generalisation : List Row → List Row → Option Row
+leaf_generalisation A C = least_list (A ++ C)
+
+-- with `most`, from these two: no leaf; no answer; the answers have what the call says; each loose end has it too, or not
+abbrev pub verdict_most : Row → Option Row → Option Row → Verdict
+verdict_most call None None = fail
+verdict_most call None (Some h) = unfinished
+verdict_most call (Some g) None = unfinished
+verdict_most call (Some g) (Some h) = cond (same_row g call) same (cond (same_row g h) (narrow g) unfinished)
+
 -- the verdict for a call, from its answers and its loose ends
 abbrev pub verdict : Mode → Row → List Row → List Row → Verdict
-verdict most call [] [] = fail
-verdict most call [] (c ∷ C) = unfinished
-verdict most call (a ∷ A) C = cond (same_row (least_row a A) call) same (cond (same_row (least_row a A) (least_row a (A ++ C))) (narrow (least_row a A)) unfinished)
+verdict most call A C = verdict_most call (answer_generalisation A) (leaf_generalisation A C)
 verdict unique call [] [] = fail
 verdict unique call [] (c ∷ C) = unfinished
 verdict unique call (a ∷ A) C = cond (another a A) nothing (cond (some_row C) unfinished (cond (same_row a call) same (narrow a)))

@@ -6,9 +6,9 @@ use Rattle.pp_algebra.specs.Terms.{Tree, int, node, variable, Trees, none, more,
 use Rattle.pp_algebra.specs.Rows.{Domain, Domains, Pattern, domain_at}
 use Rattle.pp_algebra.specs.Solve.{Item, put_item, equations, IsSolved, HasNone}
 use Rattle.pp_sld.specs.Goals.{Predicate, Goal, Clause, Program, Config, put_goal, with_goals, shapes, row_of}
-use Rattle.pp_sld.specs.Selection.{Act, waits, calls, solves, never, splits, at_place, Selection, all_wait, selected, select}
+use Rattle.pp_sld.specs.Selection.{Act, calls, solves, never, splits, at_place, Selection, all_wait, selected, select}
 
--- one way on: what has to be solved, over the configuration's variables (the first kind) and those of a fresh clause (the second kind)
+-- one way on: what has to be solved, over the configuration's variables (the first kind) and those of a fresh clause (the second kind). A clause's head is as long as its predicate's arguments, and equations stop where the shorter list does
 pub record Way : Type 0 where
   pub goals : List (Goal (ℕ ⊎ ℕ))
   pub columns : Trees (ℕ ⊎ ℕ)
@@ -33,6 +33,10 @@ pub record Leads (w : Way) (d : Config) : Type 0 where
 -- the way fails
 abbrev pub IsDead : Way → Type 0
 IsDead w = HasNone (pattern_of_way w) w.items
+
+-- it leads on or fails
+abbrev pub Goes : Way → Type 0
+Goes w = ((d : Config) × Leads w d) ⊎ IsDead w
 
 abbrev pub old : ℕ → Tree (ℕ ⊎ ℕ)
 old v = variable (inl v)
@@ -73,27 +77,26 @@ values_of ds (more (int n) ts) = []
 values_of ds (more (node f us) ts) = []
 values_of ds (more (variable v) ts) = values_in (domain_at ds v)
 
--- what comes after a configuration: it is an answer, it is a loose end, it fails, it goes one way (a built-in), or it has these alternatives
+-- what comes after a configuration: it is an answer, it is left as a loose end, it fails, it goes one way (a built-in), or it has these alternatives
 pub data Next : Type 0 where
   finished : Next
-  stuck : Next
-  barred : Next
+  left_loose : Next
+  fails : Next
   one : Way → Next
   choices : List Way → Next
 
 abbrev pub call_next : Program → Config → List (Goal ℕ) → Goal ℕ → List (Goal ℕ) → Predicate → ℕ → Next
-call_next clauses c before g after p zero = stuck
+call_next clauses c before g after p zero = left_loose
 call_next clauses c before g after p (suc depth) = choices (map (clause_way c before g after depth) (clauses p))
 
 abbrev pub act_next : Program → Config → List (Goal ℕ) → Goal ℕ → List (Goal ℕ) → Act → Next
-act_next clauses c before g after waits = stuck
 act_next clauses c before g after (calls p) = call_next clauses c before g after p c.depth
 act_next clauses c before g after (solves items) = one (built_in_way c before after items)
-act_next clauses c before g after never = barred
+act_next clauses c before g after never = fails
 act_next clauses c before g after splits = choices (map (λ n. built_in_way c before after (at_place 0 n g.arguments)) (values_of c.domains g.arguments))
 
 abbrev pub select_next : Program → Config → Selection → Next
-select_next clauses c all_wait = stuck
+select_next clauses c all_wait = left_loose
 select_next clauses c (selected before g after a) = act_next clauses c before g after a
 
 abbrev pub goals_next : Program → Config → List (Goal ℕ) → Next

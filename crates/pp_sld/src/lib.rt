@@ -9,5 +9,6 @@ mod laws;
 pub use examples::{worked_decisions, worked_verdicts};
 pub use laws::{
     call_covers_what_is_found, deepening_keeps_verdicts, findings_give_the_verdict,
-    paths_keep_every_leaf, search_is_total, search_is_unique, verdict_is_unique,
+    paths_reach_or_miss, search_is_total, search_is_unique, searches_stand_at_paths,
+    verdict_is_unique, works_are_ordered, works_keep_every_leaf,
 };

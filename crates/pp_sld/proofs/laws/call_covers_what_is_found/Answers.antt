@@ -1,5 +1,8 @@
-use Rattle.pp_sld.proofs.CallCovers.{leaves_under_call, leaves_of_width}
+use Rattle.pp_sld.proofs.CallCovers.{leaf_row_covers, leaves_under_call, leaves_of_width}
 use Rattle.pp_sld.proofs.laws.call_covers_what_is_found.Goals as goal
+
+pub returns-clause-below : goal.returns-clause-below
+returns-clause-below c = leaf_row_covers
 
 pub returns-clause-covers : goal.returns-clause-covers
 returns-clause-covers c = leaves_under_call
