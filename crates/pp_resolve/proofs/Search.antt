@@ -14,7 +14,7 @@ use Rattle.pp_sld.specs.Goals as goals
 use Rattle.pp_sld.specs.Goals.{user, Config, same_predicate}
 use Rattle.pp_sld.specs.Ways.{Way, old, clause_way, Leads, finished, next}
 use Rattle.pp_sld.specs.Trees.{answer, choice, Searches, no_more, child, failed, AreSearches}
-use Rattle.pp_sld.specs.Trace.{trace_all}
+use Rattle.pp_sld.specs.Trace.{leaves_all}
 use Rattle.pp_sld.specs.Leaves.{variables_from, root, leaf_row, answer_rows, loose_rows, HasLeaves}
 use Rattle.pp_term.specs.declared.pred.Pred.{Pred}
 use Rattle.pp_term.specs.declared.clause.Clause.{Clause}
@@ -113,8 +113,8 @@ module _ (all : List Clause) (p : Pred) (face : Row) (depth : ℕ) where
   pub record Searched (ws : List Way) (rows : List Row) : Type 0 where
     pub trees : Searches
     pub are : AreSearches (program all) ws trees
-    pub answers : answer_rows (trace_all trees) ≡ rows
-    pub loose : loose_rows (trace_all trees) ≡ []
+    pub answers : answer_rows (leaves_all trees) ≡ rows
+    pub loose : loose_rows (leaves_all trees) ≡ []
     pub width : HaveWidth (length face.domains) rows
 
   abbrev way : goals.Clause → Way
