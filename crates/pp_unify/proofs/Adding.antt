@@ -69,7 +69,7 @@ put-join s none us = refl
 put-join s (more t ts) us = ap (more (put s t)) (put-join s ts us)
 
 -- a variable that stands nowhere yet gets the next number
-canon_added : (ts : Trees ℕ) (n : ℕ) (D E : Domains ℕ) (d : Option Domain) → ((w : ℕ) → IsIn w (variables_all ts) → w < n) → ((w : ℕ) → w < n → E w ≡ D w) → E n ≡ d → canon nat_eq (record { columns = join ts (more (variable n) none); domains = E }) ≡ with_new (canon nat_eq (record { columns = ts; domains = D })) d
+pub canon_added : (ts : Trees ℕ) (n : ℕ) (D E : Domains ℕ) (d : Option Domain) → ((w : ℕ) → IsIn w (variables_all ts) → w < n) → ((w : ℕ) → w < n → E w ≡ D w) → E n ≡ d → canon nat_eq (record { columns = join ts (more (variable n) none); domains = E }) ≡ with_new (canon nat_eq (record { columns = ts; domains = D })) d
 canon_added ts n D E d below same last =
     let vs = firsts nat_eq [] (variables_all ts) in
     let new : has nat_eq vs n ≡ false = not_has nat_eq nat_eq-IsSame vs n (λ w i e. let l = below w (firsts-from (variables_all ts) w i) in absurd (omega (arith, l, e))) in

@@ -31,6 +31,7 @@ pub mod Verdicts
 pub mod Grown
 pub mod Equations
 pub mod Adding
+pub mod AddedMany
 pub mod AddedBound
 pub mod Tops
 pub mod Resolving

@@ -49,6 +49,11 @@ IsOver r t = (v : ℕ) → IsIn v (variables t) → v < count r.columns
 abbrev pub with_new : Row → Option Domain → Row
 with_new r d = record { columns = join r.columns (more (variable (length r.domains)) none); domains = r.domains ++ d ∷ [] }
 
+-- so many variables more, of any domain
+abbrev pub with_many : Row → ℕ → Row
+with_many r zero = r
+with_many r (suc k) = with_new (with_many r k) None
+
 -- one variable more, which is bound to this term
 abbrev pub with_value : Row → Tree ℕ → Row
 with_value r t = record { columns = join r.columns (more t none); domains = r.domains }

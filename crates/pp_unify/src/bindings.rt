@@ -7,7 +7,7 @@ ghost use Rattle.pp_domain.specs.Sets.{set_of};
 ghost use Rattle.pp_sld.specs.Selection.{given};
 ghost use Rattle.pp_term.specs.Columns.{set_by};
 ghost use Rattle.pp_term.specs.Meanings.{given_of};
-ghost use Rattle.pp_unify.specs.States.{no_columns, present, value_in, in_place, counted_from, IsOver, with_new, with_value, IsLonger, IsSolvedBy, domain_in, row_in};
+ghost use Rattle.pp_unify.specs.States.{no_columns, present, value_in, in_place, counted_from, IsOver, with_new, with_many, with_value, IsLonger, IsSolvedBy, domain_in, row_in};
 
 use crate::state::{State, Value};
 use indexmap::IndexSet;
@@ -83,6 +83,15 @@ impl Bindings {
         ensures kept { IsLonger self.old self.new }
     {
         self.state.add(domain)
+    }
+
+    /// Adds so many variables of any domain, and answers the first one's number.
+    pub fn add_many(&mut self, amount: u32) -> Result<u32, AllocError>
+        ensures number { IfOk result (λ v. v ≡ count (present self.old).columns) }
+        ensures added { IfOk result (λ _. present self.new ≡ with_many (present self.old) amount) }
+        ensures kept { IsLonger self.old self.new }
+    {
+        self.state.add_many(amount)
     }
 
     /// Adds a variable that is bound to a term, and answers its number. The numbers of the term's variables are
