@@ -11,13 +11,13 @@ use Rattle.pp_sld.specs.Ways.{Way, Leads, IsDead, Next, finished, left_loose, fa
 use Rattle.pp_sld.specs.Trees.{Search, answer, loose, refused, passed, choice, Searches, no_more, child, failed, IsSearch, AreSearches}
 use Rattle.pp_sld.specs.Trace.{leaves, leaves_all}
 use Rattle.pp_sld.specs.Leaves.{leaf_row, answer_rows, loose_rows}
+use Rattle.pp_sld.specs.Growth.{at_depth, CoveredByOne, Grown}
+use Rattle.pp_sld.specs.Laws.{LeavesGrow}
 use Rattle.pp_sld.proofs.Trees.{tree, tree-IsSearch}
+use Rattle.pp_sld.proofs.Once.{once}
 use Rattle.pp_sld.proofs.Covered.{columns_of}
 use Rattle.pp_sld.proofs.LeafRows.{EachRow, each-answer, each-loose, leaves-child, answer_rows-append, loose_rows-append}
 use Rattle.pp_sld.proofs.CallCovers.{IsBelow, row_below, all_below}
-
-abbrev pub at_depth : Config → ℕ → Config
-at_depth c n = record { goals = c.goals; columns = c.columns; domains = c.domains; depth = n }
 
 abbrev pub way_at : Way → ℕ → Way
 way_at w n = record { goals = w.goals; columns = w.columns; domains = w.domains; items = w.items; depth = n }
@@ -70,24 +70,13 @@ module _ (clauses : Program) (c : Config) (n : ℕ) (more : c.depth ≤ n) where
   unfolding next
   next_alike = goals_alike c.goals
 
--- covered by one of the rows
-abbrev pub Under : Row → List Row → Type 0
-Under r qs = (q : Row) × IsIn q qs × RowCovers q r
-
--- answers A and loose ends C have become B and D
-abbrev pub Grown : List Row → List Row → List Row → List Row → Type 0
-Grown A C B D =
-    ((r : Row) → IsIn r A → IsIn r B)
-    × ((r : Row) → IsIn r B → IsIn r A ⊎ Under r C)
-    × ((r : Row) → IsIn r D → Under r C)
-
 grown-none : Grown [] [] [] []
 grown-none = ((λ r i. i), (λ r i. absurd i), (λ r i. absurd i))
 
-under-left : (r : Row) (C D : List Row) → Under r C → Under r (C ++ D)
+under-left : (r : Row) (C D : List Row) → CoveredByOne r C → CoveredByOne r (C ++ D)
 under-left r C D u = (u.0, IsIn-left u.0 C D u.1, u.2)
 
-under-right : (r : Row) (C D : List Row) → Under r D → Under r (C ++ D)
+under-right : (r : Row) (C D : List Row) → CoveredByOne r D → CoveredByOne r (C ++ D)
 under-right r C D u = (u.0, IsIn-right u.0 C D u.1, u.2)
 
 grown-both : (A C B D E G F H : List Row) → Grown A C B D → Grown E G F H → Grown (A ++ E) (C ++ G) (B ++ F) (D ++ H)
@@ -118,7 +107,7 @@ leaf-at : (c : Config) (n : ℕ) → leaf_row (at_depth c n) ≡ leaf_row c
 unfolding leaf_row
 leaf-at c n = refl
 
-under-leaf : (c : Config) (n : ℕ) (rs : List Row) → EachRow (IsBelow (at_depth c n)) rs → (r : Row) → IsIn r rs → Under r (leaf_row c ∷ [])
+under-leaf : (c : Config) (n : ℕ) (rs : List Row) → EachRow (IsBelow (at_depth c n)) rs → (r : Row) → IsIn r rs → CoveredByOne r (leaf_row c ∷ [])
 under-leaf c n rs k r i = (leaf_row c, inl refl, row_below c r (k r i))
 
 answer-grown : (c : Config) (n : ℕ) → TreeGrown (answer c) (answer (at_depth c n))
@@ -171,3 +160,8 @@ module _ (clauses : Program) where
         let b = subst (λ x. AllAlike x vs) h.2 a in
         let s = all_grow ts h.1 b.1 b.4 h.4 in
         (failed s.0, (b.0, b.1, b.2, subst IsDead (sym b.3.2) h.3, s.1), s.2)
+
+pub leaves_grow : LeavesGrow
+leaves_grow clauses c n l t u h k =
+    let g = grows clauses t c n l h in
+    subst (TreeGrown t) (once clauses (at_depth c n) g.0 u g.1 k) g.2

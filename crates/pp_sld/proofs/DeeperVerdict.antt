@@ -13,26 +13,13 @@ use Rattle.pp_algebra.proofs.SameRow.{same_row-sound, same_row-itself}
 use Rattle.pp_sld.specs.Trace.{leaves}
 use Rattle.pp_sld.specs.Leaves.{call, root, answer_rows, loose_rows}
 use Rattle.pp_sld.specs.Verdicts.{Mode, most, unique, consistent, Verdict, same, nothing, unfinished, narrow, some_row, another, verdict, verdict_most, HasVerdict}
-use Rattle.pp_sld.specs.Laws.{Deepens}
+use Rattle.pp_sld.specs.Laws.{GrownKeepsVerdict, Deepens}
+use Rattle.pp_sld.proofs.Verdicts.{another-none, none-another}
 use Rattle.pp_sld.proofs.Trees.{tree, tree-IsSearch}
 use Rattle.pp_sld.proofs.OneVerdict.{verdict_of_tree, verdict_once}
 use Rattle.pp_sld.proofs.CallCovers.{leaves_under_call, call-IsCanonical}
-use Rattle.pp_sld.proofs.Deeper.{Under, Grown, grows}
-
--- what stands in the rest of the list, and nothing else than r
-another-none : (r : Row) (qs : List Row) → another r qs ≡ false → (q : Row) → IsIn q qs → q ≡ r
-another-none r [] e q i = absurd i
-another-none r (x ∷ qs) e q i = go (same_row r x) refl e i (λ f. another-none r qs f q)
-  where
-    go : (b : Bool) → same_row r x ≡ b → cond b (another r qs) true ≡ false → IsIn q (x ∷ qs) → (another r qs ≡ false → IsIn q qs → q ≡ r) → q ≡ r
-    go true f e (inl g) h = sym g ∙ sym (same_row-sound r x f)
-    go true f e (inr j) h = h e j
-    go false f e i h = absurd (cc e)
-
-none-another : (r : Row) (qs : List Row) → ((q : Row) → IsIn q qs → q ≡ r) → another r qs ≡ false
-none-another r [] h = refl
-none-another r (x ∷ qs) h =
-    ap (λ z. cond (same_row r z) (another r qs) true) (h x (inl refl)) ∙ ap (λ b. cond b (another r qs) true) (same_row-itself r) ∙ none-another r qs (λ q i. h q (inr i))
+use Rattle.pp_sld.specs.Growth.{CoveredByOne, Grown}
+use Rattle.pp_sld.proofs.Deeper.{grows}
 
 module _ (call : Row) (canonical : IsCanonical call) where
   -- rows that the call covers, and that have become others that it covers
@@ -114,7 +101,7 @@ module _ (call : Row) (canonical : IsCanonical call) where
       let G = least_row a A in
       let H : G ≡ least_row a (A ++ C) = same_row-sound G (least_row a (A ++ C)) f in
       let all : (r : Row) → IsIn r ((a ∷ A) ++ C) → RowCovers G r = λ r i. subst (λ z. RowCovers z r) (sym H) (least_row-covers a (A ++ C) r i (width-of a r (v a (inl refl)) (v r i))) in
-      let under : (r : Row) → Under r C → RowCovers G r = λ r u. covers_through (pattern_of G) (pattern_of u.0) (pattern_of r) (all u.0 (IsIn-right u.0 (a ∷ A) C u.1)) u.2 in
+      let under : (r : Row) → CoveredByOne r C → RowCovers G r = λ r u. covers_through (pattern_of G) (pattern_of u.0) (pattern_of r) (all u.0 (IsIn-right u.0 (a ∷ A) C u.1)) u.2 in
       let answers : (r : Row) → IsIn r (b ∷ B) → RowCovers G r = λ r i. elim (g.1 r i) [ inl j ↦ all r (IsIn-left r (a ∷ A) C j) | inr u ↦ under r u ] in
       let leaves : (r : Row) → IsIn r ((b ∷ B) ++ D) → RowCovers G r = λ r i. elim (IsIn-either r (b ∷ B) D i) [ inl j ↦ answers r j | inr j ↦ under r (g.2 r j) ] in
       let low : RowCovers (least_row b B) G = least-grown a b A C B D w g in
@@ -142,6 +129,9 @@ module _ (call : Row) (canonical : IsCanonical call) where
   verdict-grown most (a ∷ A) C B D v w g h = still-most a A C B D v w g h
   verdict-grown unique (a ∷ A) C B D v w g h = still-unique a A C B D g h
   verdict-grown consistent (a ∷ A) C B D v w g h = still-consistent a A C B D g
+
+pub grown_keeps_verdict : GrownKeepsVerdict
+grown_keeps_verdict call canonical m A C B D u w g f = verdict-grown call canonical m A C B D (λ r i. (u r i).0) (λ r i. (w r i).0) g f
 
 pub deepens : Deepens
 deepens clauses m shape face d e l v w h k f =

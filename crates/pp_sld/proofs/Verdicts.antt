@@ -1,9 +1,10 @@
 -- Findings joined in any order give the verdict of the whole lists.
-use Rattle.std.proofs.Common.{◌≡◌, ℕ, Bool, true, false, cond, ◌||◌, List, [], ◌∷◌, ◌++◌, Some, refl, ap, sym, ◌∙◌, subst, ◌⊎◌, inl, inr, append-nil}
+use Rattle.std.proofs.Common.{◌≡◌, ℕ, Bool, true, false, cond, ◌||◌, List, [], ◌∷◌, ◌++◌, Some, refl, ap, sym, ◌∙◌, subst, ◌⊎◌, inl, inr, append-nil, append_assoc}
 use Rattle.pp_algebra.specs.Rows.{Row}
 use Rattle.pp_algebra.specs.Covers.{IsIn}
 use Rattle.pp_algebra.specs.Least.{least_list}
 use Rattle.pp_sld.specs.Verdicts.{Mode, most, unique, consistent, same, nothing, unfinished, narrow, some_row, another, verdict}
+use Rattle.pp_sld.specs.LawsOfFindings.{FindingOfSame, AnswerIsAdded, LooseIsAdded}
 use Rattle.pp_sld.specs.Findings.{Sole, no_row, two_rows, one_row, finds_most, finds_unique, finds_consistent, join_sole, sole_of, finding, join_option, join_finding, outcome, outcome_unique}
 use Rattle.pp_algebra.proofs.Order.{IsIn-left, IsIn-right}
 use Rattle.pp_algebra.proofs.Antisym.{IsIn-either}
@@ -43,26 +44,26 @@ cross A B C D = (
   ]),
 )
 
-sole-two : (s : Sole) → join_sole s two_rows ≡ two_rows
+pub sole-two : (s : Sole) → join_sole s two_rows ≡ two_rows
 sole-two no_row = refl
 sole-two two_rows = refl
 sole-two (one_row r) = refl
 
 -- by whether the rows are equal
-cases : (r q : Row) → (r ≡ q) ⊎ (same_row r q ≡ false)
+pub cases : (r q : Row) → (r ≡ q) ⊎ (same_row r q ≡ false)
 cases r q = pick (same_row r q) refl
   where
     pick : (b : Bool) → same_row r q ≡ b → (r ≡ q) ⊎ (same_row r q ≡ false)
     pick true e = inl (same_row-sound r q e)
     pick false e = inr e
 
-one-same : (r : Row) → join_sole (one_row r) (one_row r) ≡ one_row r
+pub one-same : (r : Row) → join_sole (one_row r) (one_row r) ≡ one_row r
 one-same r = ap (λ b. cond b (one_row r) two_rows) (same_row-itself r)
 
-one-differ : (r q : Row) → same_row r q ≡ false → join_sole (one_row r) (one_row q) ≡ two_rows
+pub one-differ : (r q : Row) → same_row r q ≡ false → join_sole (one_row r) (one_row q) ≡ two_rows
 one-differ r q f = ap (λ b. cond b (one_row r) two_rows) f
 
-again : (r : Row) (s : Sole) → join_sole (one_row r) (join_sole (one_row r) s) ≡ join_sole (one_row r) s
+pub again : (r : Row) (s : Sole) → join_sole (one_row r) (join_sole (one_row r) s) ≡ join_sole (one_row r) s
 again r no_row = one-same r
 again r two_rows = refl
 again r (one_row p) = elim (cases r p) [
@@ -70,7 +71,7 @@ again r (one_row p) = elim (cases r p) [
   | inr f ↦ ap (join_sole (one_row r)) (one-differ r p f) ∙ sym (one-differ r p f)
 ]
 
-apart : (r q : Row) (s : Sole) → same_row r q ≡ false → join_sole (one_row r) (join_sole (one_row q) s) ≡ two_rows
+pub apart : (r q : Row) (s : Sole) → same_row r q ≡ false → join_sole (one_row r) (join_sole (one_row q) s) ≡ two_rows
 apart r q no_row f = one-differ r q f
 apart r q two_rows f = refl
 apart r q (one_row p) f = elim (cases q p) [
@@ -84,7 +85,7 @@ sole-one r q s = elim (cases r q) [
   | inr f ↦ ap (λ x. join_sole x s) (one-differ r q f) ∙ sym (apart r q s f)
 ]
 
-sole-assoc : (s t u : Sole) → join_sole (join_sole s t) u ≡ join_sole s (join_sole t u)
+pub sole-assoc : (s t u : Sole) → join_sole (join_sole s t) u ≡ join_sole s (join_sole t u)
 sole-assoc no_row t u = refl
 sole-assoc two_rows t u = refl
 sole-assoc (one_row r) no_row u = refl
@@ -125,3 +126,80 @@ outcome_is unique call (a ∷ A) C = ap (λ x. outcome_unique call x (some_row C
 outcome_is consistent call [] [] = refl
 outcome_is consistent call [] (c ∷ C) = refl
 outcome_is consistent call (a ∷ A) C = refl
+
+-- what stands in the rest of the list, and nothing else than r
+pub another-none : (r : Row) (qs : List Row) → another r qs ≡ false → (q : Row) → IsIn q qs → q ≡ r
+another-none r [] e q i = absurd i
+another-none r (x ∷ qs) e q i = go (same_row r x) refl e i (λ f. another-none r qs f q)
+  where
+    go : (b : Bool) → same_row r x ≡ b → cond b (another r qs) true ≡ false → IsIn q (x ∷ qs) → (another r qs ≡ false → IsIn q qs → q ≡ r) → q ≡ r
+    go true f e (inl g) h = sym g ∙ sym (same_row-sound r x f)
+    go true f e (inr j) h = h e j
+    go false f e i h = absurd (cc e)
+
+pub none-another : (r : Row) (qs : List Row) → ((q : Row) → IsIn q qs → q ≡ r) → another r qs ≡ false
+none-another r [] h = refl
+none-another r (x ∷ qs) h =
+    ap (λ z. cond (same_row r z) (another r qs) true) (h x (inl refl)) ∙ ap (λ b. cond b (another r qs) true) (same_row-itself r) ∙ none-another r qs (λ q i. h q (inr i))
+
+-- ===== order and repeats
+
+same-some : (rs qs : List Row) → SameRows rs qs → some_row rs ≡ some_row qs
+same-some [] [] s = refl
+same-some [] (q ∷ qs) s = absurd (s.1 q (inl refl))
+same-some (r ∷ rs) [] s = absurd (s.0 r (inl refl))
+same-some (r ∷ rs) (q ∷ qs) s = refl
+
+-- where no other row stands in the one list, none stands in the other
+all-one : (a b : Row) (A B : List Row) → SameRows (a ∷ A) (b ∷ B) → another a A ≡ false → (b ≡ a) × (another b B ≡ false)
+all-one a b A B s e =
+    let one : (q : Row) → IsIn q (a ∷ A) → q ≡ a = λ q i. elim i [ inl f ↦ sym f | inr j ↦ another-none a A e q j ] in
+    let is : b ≡ a = one b (s.1 b (inl refl)) in
+    (is, none-another b B (λ q i. one q (s.1 q (inr i)) ∙ sym is))
+
+same-sole : (A B : List Row) → SameRows A B → sole_of A ≡ sole_of B
+same-sole [] [] s = refl
+same-sole [] (b ∷ B) s = absurd (s.1 b (inl refl))
+same-sole (a ∷ A) [] s = absurd (s.0 a (inl refl))
+same-sole (a ∷ A) (b ∷ B) s = another-sole a A ∙ pick (another a A) (another b B) refl refl ∙ sym (another-sole b B)
+  where
+    pick : (x y : Bool) → another a A ≡ x → another b B ≡ y → cond x two_rows (one_row a) ≡ cond y two_rows (one_row b)
+    pick true true e f = refl
+    pick true false e f = let h : (a ≡ b) × (another a A ≡ false) = all-one b a B A (s.1, s.0) f in absurd (cc (e, h.1))
+    pick false true e f = let h = all-one a b A B s e in absurd (cc (f, h.1))
+    pick false false e f = let h = all-one a b A B s e in ap one_row (sym h.0)
+
+same-both : (A B C D : List Row) → SameRows A B → SameRows C D → SameRows (A ++ C) (B ++ D)
+same-both A B C D s t = (
+  (λ q i. elim (IsIn-either q A C i) [ inl j ↦ IsIn-left q B D (s.0 q j) | inr j ↦ IsIn-right q B D (t.0 q j) ]),
+  (λ q i. elim (IsIn-either q B D i) [ inl j ↦ IsIn-left q A C (s.1 q j) | inr j ↦ IsIn-right q A C (t.1 q j) ]),
+)
+
+pub finding_of_same : FindingOfSame
+finding_of_same most n A B C D h s t =
+    ap (λ x. finds_most x (least_list (A ++ C))) (least_list_same n A B (λ q i. h q (IsIn-left q A C i)) s)
+    ∙ ap (finds_most (least_list B)) (least_list_same n (A ++ C) (B ++ D) h (same-both A B C D s t))
+finding_of_same unique n A B C D h s t = ap (λ x. finds_unique x (some_row C)) (same-sole A B s) ∙ ap (finds_unique (sole_of B)) (same-some C D t)
+finding_of_same consistent n A B C D h s t = ap (λ x. finds_consistent x (some_row C)) (same-some A B s) ∙ ap (finds_consistent (some_row B)) (same-some C D t)
+
+-- ===== one row more
+
+same-end : (A C : List Row) (r : Row) → SameRows ((A ++ C) ++ (r ∷ [])) ((A ++ r ∷ []) ++ C)
+same-end A C r = (
+  (λ q i. elim (IsIn-either q (A ++ C) (r ∷ []) i) [
+    | inl j ↦ elim (IsIn-either q A C j) [ inl k ↦ IsIn-left q (A ++ r ∷ []) C (IsIn-left q A (r ∷ []) k) | inr k ↦ IsIn-right q (A ++ r ∷ []) C k ]
+    | inr j ↦ IsIn-left q (A ++ r ∷ []) C (IsIn-right q A (r ∷ []) j)
+  ]),
+  (λ q i. elim (IsIn-either q (A ++ r ∷ []) C i) [
+    | inl j ↦ elim (IsIn-either q A (r ∷ []) j) [ inl k ↦ IsIn-left q (A ++ C) (r ∷ []) (IsIn-left q A C k) | inr k ↦ IsIn-right q (A ++ C) (r ∷ []) k ]
+    | inr j ↦ IsIn-left q (A ++ C) (r ∷ []) (IsIn-right q A C j)
+  ]),
+)
+
+pub answer_is_added : AnswerIsAdded
+answer_is_added m n A C r h =
+    finding_join m n A (r ∷ []) C [] (λ q i. h q ((same-end A C r).0 q i)) ∙ ap (finding m (A ++ r ∷ [])) (append-nil C)
+
+pub loose_is_added : LooseIsAdded
+loose_is_added m n A C r h =
+    finding_join m n A [] C (r ∷ []) (λ q i. h q (subst (IsIn q) (append_assoc A C (r ∷ [])) i)) ∙ ap (λ x. finding m x (C ++ r ∷ [])) (append-nil A)

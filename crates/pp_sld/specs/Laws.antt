@@ -6,11 +6,15 @@ use Rattle.pp_algebra.specs.Joins.{AllOf}
 use Rattle.pp_algebra.specs.Laws.{RowCovers}
 use Rattle.pp_sld.specs.Goals.{Shape, Program, Config}
 use Rattle.pp_sld.specs.Ways.{Way, Leads, Goes}
-use Rattle.pp_sld.specs.Trees.{Search, IsSearch}
-use Rattle.pp_sld.specs.Trace.{leaves}
+use Rattle.pp_sld.specs.Trees.{Search, answer, loose, IsSearch}
+use Rattle.pp_sld.specs.Trace.{Leaf, answers_with, loose_with, trace, met, reductions, until, leaves}
 use Rattle.pp_sld.specs.Leaves.{call, root, leaf_row, answer_rows, loose_rows, HasLeaves}
 use Rattle.pp_sld.specs.Verdicts.{Mode, Verdict, unfinished, verdict, HasVerdict}
-use Rattle.pp_sld.specs.Findings.{finding, join_finding, outcome, settled}
+use Rattle.pp_sld.specs.Findings.{finding_of, outcome}
+use Rattle.pp_sld.specs.Lattice.{RowsUnder, LeavesUnder, Fits}
+use Rattle.pp_sld.specs.Walks.{settled_by, walk}
+use Rattle.pp_sld.specs.Works.{Work, worth}
+use Rattle.pp_sld.specs.Growth.{at_depth, Grown}
 
 -- a way leads to one configuration
 abbrev pub LeadsOnce : Type 0
@@ -32,20 +36,6 @@ HasOneListOfLeaves = (clauses : Program) (c : Config) → (A C : List Row) × Ha
 abbrev pub HasOneVerdict : Type 0
 HasOneVerdict = (clauses : Program) (depth : ℕ) (m : Mode) (shape : Shape) (face : Row) → (v : Verdict) × HasVerdict clauses depth m shape face v × ((w : Verdict) → HasVerdict clauses depth m shape face w → v ≡ w)
 
--- the findings of two pairs of lists, joined, are the finding of the lists put one behind the other
-abbrev pub FindingsJoin : Type 0
-FindingsJoin = (m : Mode) (n : ℕ) (A B C D : List Row) → AllOf n ((A ++ C) ++ (B ++ D)) → join_finding (finding m A C) (finding m B D) ≡ finding m (A ++ B) (C ++ D)
-
--- the outcome of the finding of all answers and loose ends is the verdict
-abbrev pub OutcomeIsVerdict : Type 0
-OutcomeIsVerdict = (m : Mode) (call : Row) (A C : List Row) → outcome call (finding m A C) ≡ verdict m call A C
-
--- where the call covers the answers that are still to come, a settled finding stays settled, with its outcome
-abbrev pub SettledStays : Type 0
-SettledStays = (call : Row) (m : Mode) (A C B D : List Row) → ((q : Row) → IsIn q B → RowCovers call q) → settled call (finding m A C) ≡ true
-    → (settled call (join_finding (finding m A C) (finding m B D)) ≡ true)
-    × (outcome call (join_finding (finding m A C) (finding m B D)) ≡ outcome call (finding m A C))
-
 -- the row of a configuration covers each leaf below it, which is a canonical row
 abbrev pub LeafRowCovers : Type 0
 LeafRowCovers = (clauses : Program) (c : Config) (t : Search) → IsSearch clauses c t → (r : Row) → IsIn r (answer_rows (leaves t) ++ loose_rows (leaves t)) → RowCovers (leaf_row c) r × IsCanonical r
@@ -58,6 +48,35 @@ CallCoversLeaves = (clauses : Program) (shape : Shape) (face : Row) (depth : ℕ
 abbrev pub LeavesHaveWidth : Type 0
 LeavesHaveWidth = (clauses : Program) (shape : Shape) (face : Row) (depth : ℕ) (t : Search) → IsSearch clauses (root shape face depth) t → AllOf (length face.domains) (answer_rows (leaves t) ++ loose_rows (leaves t))
 
+-- with more depth the answers stay, and each new answer or loose end is covered by an old loose end
+abbrev pub LeavesGrow : Type 0
+LeavesGrow = (clauses : Program) (c : Config) (n : ℕ) → c.depth ≤ n → (t u : Search) → IsSearch clauses c t → IsSearch clauses (at_depth c n) u → Grown (answer_rows (leaves t)) (loose_rows (leaves t)) (answer_rows (leaves u)) (loose_rows (leaves u))
+
+-- where rows under the call have grown so, a verdict other than unfinished stays
+abbrev pub GrownKeepsVerdict : Type 0
+GrownKeepsVerdict = (call : Row) → IsCanonical call → (m : Mode) (A C B D : List Row) → RowsUnder call (A ++ C) → RowsUnder call B → Grown A C B D → (verdict m call A C ≡ unfinished → ⊥) → verdict m call B D ≡ verdict m call A C
+
 -- a verdict other than unfinished is the verdict at each larger depth
 abbrev pub Deepens : Type 0
 Deepens = (clauses : Program) (m : Mode) (shape : Shape) (face : Row) (d e : ℕ) → d ≤ e → (v w : Verdict) → HasVerdict clauses d m shape face v → HasVerdict clauses e m shape face w → (v ≡ unfinished → ⊥) → w ≡ v
+
+-- ===== walks and works of a goal
+
+-- the outcome of what was met at the stop is the verdict of the whole search
+abbrev pub WalkGivesVerdict : Type 0
+WalkGivesVerdict = (clauses : Program) (depth : ℕ) (m : Mode) (shape : Shape) (face : Row) (t : Search) (v : Verdict) → IsSearch clauses (root shape face depth) t → HasVerdict clauses depth m shape face v
+    → outcome (call face) (finding_of m (met (until (settled_by m (call face)) [] (trace t)))) ≡ v
+
+-- a walk makes no more reductions than there are, and none where the root is a leaf
+abbrev pub WalkIsAtMost : Type 0
+WalkIsAtMost = (m : Mode) (call : Row) (t : Search) → walk m call t ≤ reductions (trace t)
+
+abbrev pub LeafHasNoWalk : Type 0
+LeafHasNoWalk = (m : Mode) (call : Row) (c : Config) → (walk m call (answer c) ≡ 0) × (walk m call (loose c) ≡ 0)
+
+-- the leaves of a work of a goal's search lie under the call, so its finding fits
+abbrev pub WorthIsUnder : Type 0
+WorthIsUnder = (clauses : Program) (shape : Shape) (face : Row) (depth : ℕ) (t : Search) → IsSearch clauses (root shape face depth) t → (w : Work) → LeavesUnder (call face) (worth w t)
+
+abbrev pub WorthFits : Type 0
+WorthFits = (clauses : Program) (shape : Shape) (face : Row) (depth : ℕ) (t : Search) → IsSearch clauses (root shape face depth) t → (m : Mode) (w : Work) → Fits m (call face) (finding_of m (worth w t))

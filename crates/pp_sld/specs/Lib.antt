@@ -7,10 +7,16 @@ pub mod Trace
 pub mod Leaves
 pub mod Verdicts
 pub mod Findings
+pub mod Lattice
+pub mod Walks
+pub mod Growth
 pub mod Paths
-pub mod Works
 pub mod Reach
+pub mod Works
+pub mod Reports
 pub mod Laws
+pub mod LawsOfFindings
 pub mod LawsOfPaths
 pub mod LawsOfWorks
+pub mod LawsOfReports
 pub mod Examples

@@ -1,5 +1,5 @@
 use Rattle.pp_sld.proofs.Standing.{path_reaches_leaves, path_reaches_once, path_reaches_or_misses, path_misses_leaves, misses_dead, misses_place, misses_end}
-use Rattle.pp_sld.proofs.laws.paths_reach_or_miss.Goals as goal
+use Rattle.pp_sld.proofs.works.paths_reach_or_miss.Goals as goal
 
 pub returns-clause-leaves : goal.returns-clause-leaves
 returns-clause-leaves c = path_reaches_leaves

@@ -1,5 +1,5 @@
 use Rattle.pp_sld.proofs.LaterWorks.{none_is_later, later_through, next_is_later, down_is_later, split_is_later}
-use Rattle.pp_sld.proofs.laws.works_are_ordered.Goals as goal
+use Rattle.pp_sld.proofs.works.works_are_ordered.Goals as goal
 
 pub returns-clause-not_itself : goal.returns-clause-not_itself
 returns-clause-not_itself c = none_is_later

@@ -1,5 +1,5 @@
 use Rattle.pp_sld.proofs.Standing.{root_stands, went_stands, chose_stands, back_stands, stands_at_leaves, stands_at_choice}
-use Rattle.pp_sld.proofs.laws.searches_stand_at_paths.Goals as goal
+use Rattle.pp_sld.proofs.works.searches_stand_at_paths.Goals as goal
 
 pub returns-clause-root : goal.returns-clause-root
 returns-clause-root c = root_stands
