@@ -1,16 +1,14 @@
 -- A configuration's columns cover the leaves of its tree.
-use Rattle.std.proofs.Common.{◌≡◌, ℕ, zero, suc, ◌+◌, List, [], ◌∷◌, ◌++◌, length, refl, ap, sym, ◌∙◌, subst, inl, inr, arith}
+use Rattle.std.proofs.Common.{◌≡◌, ℕ, zero, suc, ◌+◌, List, [], ◌∷◌, length, refl, ap, sym, ◌∙◌, subst, inl, inr, arith}
 use Rattle.std.specs.Prelude.{nat_eq}
 use Rattle.pp_algebra.specs.Terms.{count, variables_all}
 use Rattle.pp_algebra.specs.Rows.{Row, IsCanonical, IsNumbered, pattern_of}
-use Rattle.pp_algebra.specs.Covers.{IsIn, Covers}
-use Rattle.pp_algebra.specs.Joins.{AllOf}
+use Rattle.pp_algebra.specs.Covers.{Covers}
 use Rattle.pp_algebra.specs.Laws.{RowCovers}
 use Rattle.pp_algebra.proofs.Order.{covers_through}
-use Rattle.pp_algebra.proofs.Antisym.{IsIn-either}
 use Rattle.pp_algebra.proofs.CanonLemmas.{nat_eq-IsSame, canon-IsCanonical, canon-covers, covers-canon}
 use Rattle.pp_algebra.proofs.Law.{count-covers}
-use Rattle.pp_sld.specs.Goals.{Shape, Program, Config}
+use Rattle.pp_sld.specs.Goals.{Program, Config}
 use Rattle.pp_sld.specs.Ways.{Way}
 use Rattle.pp_sld.specs.Trees.{Search, answer, loose, refused, passed, choice, Searches, no_more, child, failed, IsSearch, AreSearches}
 use Rattle.pp_sld.specs.Trace.{Leaf, answers_with, loose_with, leaves, leaves_all}

@@ -1,9 +1,8 @@
 -- The tree of a configuration with more depth: the answers stay, and what is new lies under a loose end.
-use Rattle.std.proofs.Common.{◌≡◌, ℕ, ℤ, zero, suc, ◌≤◌, List, [], ◌∷◌, ◌++◌, map, refl, sym, subst, ◌⊎◌, inl, inr, arith}
-use Rattle.pp_algebra.specs.Rows.{Row, pattern_of}
+use Rattle.std.proofs.Common.{◌≡◌, ℕ, ℤ, zero, suc, ◌≤◌, List, [], ◌∷◌, ◌++◌, map, refl, sym, subst, inl, inr, arith}
+use Rattle.pp_algebra.specs.Rows.{Row}
 use Rattle.pp_algebra.specs.Covers.{IsIn}
-use Rattle.pp_algebra.specs.Laws.{RowCovers}
-use Rattle.pp_algebra.proofs.Order.{covers_through, IsIn-left, IsIn-right}
+use Rattle.pp_algebra.proofs.Order.{IsIn-left, IsIn-right}
 use Rattle.pp_algebra.proofs.Antisym.{IsIn-either}
 use Rattle.pp_sld.specs.Goals.{Predicate, Goal, Clause, Program, Config}
 use Rattle.pp_sld.specs.Selection.{Act, calls, solves, never, splits, Selection, all_wait, selected, select, at_place}
@@ -15,7 +14,6 @@ use Rattle.pp_sld.specs.Growth.{at_depth, CoveredByOne, Grown}
 use Rattle.pp_sld.specs.Laws.{LeavesGrow}
 use Rattle.pp_sld.proofs.Trees.{tree, tree-IsSearch}
 use Rattle.pp_sld.proofs.Once.{once}
-use Rattle.pp_sld.proofs.Covered.{columns_of}
 use Rattle.pp_sld.proofs.LeafRows.{EachRow, each-answer, each-loose, leaves-child, answer_rows-append, loose_rows-append}
 use Rattle.pp_sld.proofs.CallCovers.{IsBelow, row_below, all_below}
 

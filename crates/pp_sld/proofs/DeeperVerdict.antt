@@ -12,7 +12,7 @@ use Rattle.pp_algebra.proofs.Law.{count-covers, least_row-IsCanonical, least_row
 use Rattle.pp_algebra.proofs.SameRow.{same_row-sound, same_row-itself}
 use Rattle.pp_sld.specs.Trace.{leaves}
 use Rattle.pp_sld.specs.Leaves.{call, root, answer_rows, loose_rows}
-use Rattle.pp_sld.specs.Verdicts.{Mode, most, unique, consistent, Verdict, same, nothing, unfinished, narrow, some_row, another, verdict, verdict_most, HasVerdict}
+use Rattle.pp_sld.specs.Verdicts.{Mode, most, unique, consistent, same, nothing, unfinished, narrow, some_row, another, verdict, verdict_most, HasVerdict}
 use Rattle.pp_sld.specs.Laws.{GrownKeepsVerdict, Deepens}
 use Rattle.pp_sld.proofs.Verdicts.{another-none, none-another}
 use Rattle.pp_sld.proofs.Trees.{tree, tree-IsSearch}

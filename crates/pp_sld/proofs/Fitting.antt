@@ -1,7 +1,7 @@
 -- Findings that fit: those of rows and leaves under the call, and what they already know.
-use Rattle.std.proofs.Common.{◌≡◌, Bool, true, false, List, [], ◌∷◌, ◌++◌, Option, Some, None, refl, ap, sym, ◌∙◌, subst, inl, inr, pos}
+use Rattle.std.proofs.Common.{◌≡◌, Bool, true, false, List, [], ◌∷◌, ◌++◌, Option, Some, None, refl, ap, sym, ◌∙◌, inl, inr, pos}
 use Rattle.pp_algebra.specs.Terms.{count, int, none, more}
-use Rattle.pp_algebra.specs.Rows.{Row, IsCanonical, pattern_of}
+use Rattle.pp_algebra.specs.Rows.{Row, pattern_of}
 use Rattle.pp_algebra.specs.Covers.{IsIn}
 use Rattle.pp_algebra.specs.Joins.{AllOf}
 use Rattle.pp_algebra.specs.Laws.{RowCovers}
@@ -10,12 +10,11 @@ use Rattle.pp_algebra.proofs.Order.{covers_itself, IsIn-left, IsIn-right}
 use Rattle.pp_algebra.proofs.Antisym.{covers_antisymmetric}
 use Rattle.pp_algebra.proofs.Law.{least_row-IsCanonical, least_row-least, count-covers}
 use Rattle.pp_algebra.proofs.Sets.{least_of_more, least_of_one}
-use Rattle.pp_sld.specs.Trees.{Search, IsSearch}
 use Rattle.pp_sld.specs.Trace.{Leaf, leaves}
 use Rattle.pp_sld.specs.Leaves.{leaf_row, answer_rows, loose_rows}
-use Rattle.pp_sld.specs.Verdicts.{Mode, most, unique, consistent, some_row}
-use Rattle.pp_sld.specs.Findings.{Sole, no_row, two_rows, one_row, Finding, finds_most, finds_unique, finds_consistent, sole_of, finding, finding_of, join_option, join_finding}
-use Rattle.pp_sld.specs.Lattice.{IsUnder, RowsUnder, LeavesUnder, UnderIfSome, CoversIfSome, UnderIfOne, Fits, IsBelow}
+use Rattle.pp_sld.specs.Verdicts.{most, unique, consistent, some_row}
+use Rattle.pp_sld.specs.Findings.{Sole, no_row, two_rows, one_row, finds_most, finds_unique, finds_consistent, sole_of, finding, join_option}
+use Rattle.pp_sld.specs.Lattice.{IsUnder, RowsUnder, LeavesUnder, UnderIfSome, CoversIfSome, UnderIfOne, Fits}
 use Rattle.pp_sld.specs.LawsOfFindings.{FindingFits, LeavesFit, LeavesJoin, FittingIsFound, CoveredAddsNothing, SubtreeAddsNothing}
 use Rattle.pp_sld.proofs.LeafRows.{answer_rows-append, loose_rows-append, each-answer, each-loose, each-both}
 use Rattle.pp_sld.proofs.CallCovers.{leaf_row_covers}

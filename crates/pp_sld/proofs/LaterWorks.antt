@@ -1,6 +1,6 @@
 -- The order of works, and what can be split.
-use Rattle.std.proofs.Common.{◌≡◌, ℕ, zero, suc, ◌<◌, Bool, true, false, cond, List, [], ◌∷◌, ◌++◌, Option, Some, None, refl, ap, sym, ◌∙◌, subst, ◌⊎◌, inl, inr, arith}
-use Rattle.pp_sld.specs.Works.{Level, Work, spent, at, level, places, down, has_sibling, siblings, moved, next_levels, work_of, next, behind, split_levels, works_of, split, ComesAfter, IsLater}
+use Rattle.std.proofs.Common.{◌≡◌, ℕ, suc, Bool, true, false, cond, List, [], ◌∷◌, Option, Some, None, refl, ap, sym, ◌∙◌, subst, ◌⊎◌, inl, inr, arith}
+use Rattle.pp_sld.specs.Works.{Level, Work, spent, at, level, places, has_sibling, siblings, moved, next_levels, work_of, behind, split_levels, works_of, ComesAfter, IsLater}
 use Rattle.pp_sld.specs.LawsOfWorks.{SplitsWhereNext, NoneIsLater, LaterThrough, NextIsLater, DownIsLater, SplitIsLater}
 
 never_after : (ks : List ℕ) → ComesAfter ks ks → ⊥

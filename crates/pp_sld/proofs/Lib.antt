@@ -5,6 +5,7 @@ pub mod LeafRows
 pub mod OneVerdict
 pub mod Covered
 pub mod CallCovers
+pub mod WideRows
 pub mod Verdicts
 pub mod Settled
 pub mod Joining
@@ -17,3 +18,4 @@ pub mod LaterWorks
 pub mod Reports
 pub mod Walks
 pub mod Worked
+pub mod WorkedSearches

@@ -24,7 +24,7 @@ same_goals (g ∷ gs) (h ∷ hs) ts us e s =
 abbrev config_of : List (Goal ℕ) → Trees ℕ → List (Option Domain) → ℕ → Config
 config_of gs ts ds n = record { goals = gs; columns = ts; domains = ds; depth = n }
 
-same_config : (c d : Config) → row_of c ≡ row_of d → shapes c.goals ≡ shapes d.goals → c.depth ≡ d.depth → c ≡ d
+pub same_config : (c d : Config) → row_of c ≡ row_of d → shapes c.goals ≡ shapes d.goals → c.depth ≡ d.depth → c ≡ d
 same_config c d e s n =
     let r = same_goals c.goals d.goals c.columns d.columns (ap (λ x. x.columns) e) s in
     ap (λ x. config_of x c.columns c.domains c.depth) r.0

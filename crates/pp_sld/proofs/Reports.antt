@@ -1,14 +1,13 @@
 -- What a walk through a part of a search shows of it.
-use Rattle.std.proofs.Common.{◌≡◌, ℕ, ◌<◌, List, [], ◌∷◌, ◌++◌, refl, ap, sym, ◌∙◌, subst, append_assoc, append-nil}
+use Rattle.std.proofs.Common.{◌≡◌, List, [], ◌∷◌, ◌++◌, refl, ap, sym, ◌∙◌, subst, append_assoc, append-nil}
 use Rattle.pp_algebra.specs.Rows.{Row}
-use Rattle.pp_sld.specs.Trees.{Search, IsSearch}
+use Rattle.pp_sld.specs.Trees.{Search}
 use Rattle.pp_sld.specs.Trace.{Leaf}
-use Rattle.pp_sld.specs.Paths.{PathComesTo}
-use Rattle.pp_sld.specs.Works.{Level, Work, spent, at, worth, worths, path_worth, next, split}
+use Rattle.pp_sld.specs.Works.{Work, worth, worths, path_worth, next}
 use Rattle.pp_sld.specs.Verdicts.{Mode}
 use Rattle.pp_sld.specs.Findings.{Finding, finding_of, join_finding}
 use Rattle.pp_sld.specs.Lattice.{LeavesUnder, Fits}
-use Rattle.pp_sld.specs.Reports.{HasWalked, IsFound, with_worths, IsFitReport}
+use Rattle.pp_sld.specs.Reports.{with_worths}
 use Rattle.pp_sld.specs.LawsOfReports.{WalkBegins, WalkGoesDown, WalkGoesOn, WalkEnds, WalkSplits, NothingIsFound, LeavesAreFound, LeavesAreSkipped, ReportIsFit}
 use Rattle.pp_sld.proofs.WorkLeaves.{next_keeps, split_keeps, down_levels}
 use Rattle.pp_sld.proofs.Joining.{join-turned, join-grouped, join-fits}

@@ -1,15 +1,15 @@
 -- A walk that stops when it is settled gives the verdict; and works of a goal's search.
-use Rattle.std.proofs.Common.{◌≡◌, ℕ, zero, suc, ◌+◌, ◌≤◌, Bool, true, false, cond, List, [], ◌∷◌, ◌++◌, refl, ap, sym, ◌∙◌, subst, ◌⊎◌, inl, inr, arith, append_assoc, append-nil}
+use Rattle.std.proofs.Common.{◌≡◌, ℕ, ◌+◌, Bool, true, false, cond, List, [], ◌∷◌, ◌++◌, refl, ap, sym, ◌∙◌, subst, ◌⊎◌, inl, inr, arith, append_assoc, append-nil}
 use Rattle.pp_algebra.specs.Rows.{Row}
 use Rattle.pp_sld.specs.Goals.{Program, Shape}
 use Rattle.pp_sld.specs.Trees.{Search, IsSearch}
 use Rattle.pp_sld.specs.Trace.{Leaf, answers_with, loose_with, Mark, tried, ends, trace, met, reductions, until, leaves}
-use Rattle.pp_sld.specs.Leaves.{call, root, row_at, answer_rows, loose_rows}
-use Rattle.pp_sld.specs.Works.{Work, worth}
+use Rattle.pp_sld.specs.Leaves.{call, root, answer_rows, loose_rows}
+use Rattle.pp_sld.specs.Works.{worth}
 use Rattle.pp_sld.specs.Verdicts.{Mode, verdict}
-use Rattle.pp_sld.specs.Findings.{finding, finding_of, outcome, settled, join_finding}
-use Rattle.pp_sld.specs.Lattice.{IsUnder, LeavesUnder, Fits}
-use Rattle.pp_sld.specs.Walks.{settled_by, walk}
+use Rattle.pp_sld.specs.Findings.{finding_of, outcome, settled}
+use Rattle.pp_sld.specs.Lattice.{IsUnder, LeavesUnder}
+use Rattle.pp_sld.specs.Walks.{settled_by}
 use Rattle.pp_sld.specs.Laws.{WalkGivesVerdict, WalkIsAtMost, LeafHasNoWalk, WorthIsUnder, WorthFits}
 use Rattle.pp_sld.proofs.LeafRows.{met-append, each-leaf-answer, each-answer}
 use Rattle.pp_algebra.proofs.Order.{IsIn-left, IsIn-right}

@@ -1,13 +1,13 @@
 -- Going through a work and splitting it loses no leaf and makes none twice.
-use Rattle.std.proofs.Common.{◌≡◌, ℕ, zero, suc, ◌-◌, ◌<◌, ◌≤◌, Bool, true, false, cond, List, [], ◌∷◌, ◌++◌, Option, Some, None, refl, ap, sym, ◌∙◌, subst, ◌⊎◌, inl, inr, arith, append_assoc, append-nil}
+use Rattle.std.proofs.Common.{◌≡◌, ℕ, zero, suc, ◌-◌, ◌<◌, ◌≤◌, Bool, true, false, cond, List, [], ◌∷◌, ◌++◌, Option, Some, None, refl, ap, sym, ◌∙◌, subst, inl, inr, arith, append_assoc, append-nil}
 use Rattle.std.proofs.lemmas.Bool.{ltb-true, ltb-false}
 use Rattle.pp_algebra.specs.Covers.{IsIn}
 use Rattle.pp_algebra.proofs.Order.{IsIn-left, IsIn-right}
 use Rattle.pp_algebra.proofs.Antisym.{IsIn-either}
 use Rattle.pp_sld.specs.Trees.{Search, answer, loose, refused, passed, choice, Searches, no_more, child, failed}
-use Rattle.pp_sld.specs.Trace.{Leaf, trace_all, leaves, leaves_all}
+use Rattle.pp_sld.specs.Trace.{Leaf, leaves, leaves_all}
 use Rattle.pp_sld.specs.Paths.{kids, skip, count_kids, of_first, at_path, ComesTo, FirstIs, PathComesTo}
-use Rattle.pp_sld.specs.Works.{Level, Work, spent, at, level, places, first_few, between, levels_worth, worth, path_worth, down, has_sibling, siblings, moved, next_levels, work_of, next, behind, split_levels, works_of, split}
+use Rattle.pp_sld.specs.Works.{Level, Work, spent, at, level, places, first_few, between, levels_worth, worth, path_worth, has_sibling, siblings, moved, next_levels, work_of, behind, split_levels, works_of}
 use Rattle.pp_sld.specs.LawsOfWorks.{NextKeeps, LastIsPath, SplitKeeps, DownKeeps, WorthIsInside}
 use Rattle.pp_sld.proofs.LeafRows.{leaves-child}
 

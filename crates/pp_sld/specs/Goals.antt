@@ -1,6 +1,6 @@
 -- Goals, clauses and configurations: what a branch of a search still has to do, and what it has bound so far.
 use Rattle.std.specs.Prelude.{ℕ, Bool, cond, ◌&&◌, nat_eq, List, [], ◌∷◌, map, Option}
-use Rattle.pp_algebra.specs.Terms.{Tree, node, Trees, none, more, put_all}
+use Rattle.pp_algebra.specs.Terms.{Tree, node, Trees, more, put_all}
 use Rattle.pp_algebra.specs.Rows.{Domain, Row}
 use Rattle.pp_sld.specs.BuiltIns.{Test}
 

@@ -6,7 +6,7 @@ use Rattle.pp_algebra.specs.Laws.{RowCovers}
 use Rattle.pp_sld.specs.Trace.{Leaf}
 use Rattle.pp_sld.specs.Leaves.{row_at}
 use Rattle.pp_sld.specs.Verdicts.{Mode, most, unique, consistent}
-use Rattle.pp_sld.specs.Findings.{Sole, no_row, two_rows, one_row, Finding, finds_most, finds_unique, finds_consistent, finding, join_finding}
+use Rattle.pp_sld.specs.Findings.{Sole, one_row, Finding, finds_most, finds_unique, finds_consistent, finding, join_finding}
 
 -- a canonical row that the call covers
 abbrev pub IsUnder : Row → Row → Type 0

@@ -1,13 +1,13 @@
 -- The laws of search, as statements.
-use Rattle.std.specs.Prelude.{◌≡◌, ℕ, suc, ◌<◌, ◌≤◌, length, ◌⊎◌, true, List, [], ◌∷◌, ◌++◌}
-use Rattle.pp_algebra.specs.Rows.{Row, IsCanonical}
+use Rattle.std.specs.Prelude.{◌≡◌, ℕ, ◌≤◌, length, List, [], ◌++◌}
+use Rattle.pp_algebra.specs.Rows.{Row, IsCanonical, AreWide, IsRow}
 use Rattle.pp_algebra.specs.Covers.{IsIn}
 use Rattle.pp_algebra.specs.Joins.{AllOf}
 use Rattle.pp_algebra.specs.Laws.{RowCovers}
 use Rattle.pp_sld.specs.Goals.{Shape, Program, Config}
-use Rattle.pp_sld.specs.Ways.{Way, Leads, Goes}
+use Rattle.pp_sld.specs.Ways.{Way, Leads}
 use Rattle.pp_sld.specs.Trees.{Search, answer, loose, IsSearch}
-use Rattle.pp_sld.specs.Trace.{Leaf, answers_with, loose_with, trace, met, reductions, until, leaves}
+use Rattle.pp_sld.specs.Trace.{trace, met, reductions, until, leaves}
 use Rattle.pp_sld.specs.Leaves.{call, root, leaf_row, answer_rows, loose_rows, HasLeaves}
 use Rattle.pp_sld.specs.Verdicts.{Mode, Verdict, unfinished, verdict, HasVerdict}
 use Rattle.pp_sld.specs.Findings.{finding_of, outcome}
@@ -47,6 +47,13 @@ CallCoversLeaves = (clauses : Program) (shape : Shape) (face : Row) (depth : ℕ
 -- and has a column for each variable of the face
 abbrev pub LeavesHaveWidth : Type 0
 LeavesHaveWidth = (clauses : Program) (shape : Shape) (face : Row) (depth : ℕ) (t : Search) → IsSearch clauses (root shape face depth) t → AllOf (length face.domains) (answer_rows (leaves t) ++ loose_rows (leaves t))
+
+-- the leaves of a configuration with wide domains are rows, so those of a goal are where its face is one; and so is the call
+abbrev pub LeavesAreRows : Type 0
+LeavesAreRows = (clauses : Program) (c : Config) (t : Search) → AreWide c.domains → IsSearch clauses c t → (r : Row) → IsIn r (answer_rows (leaves t) ++ loose_rows (leaves t)) → IsRow r
+
+abbrev pub CallIsRow : Type 0
+CallIsRow = (face : Row) → AreWide face.domains → IsRow (call face)
 
 -- with more depth the answers stay, and each new answer or loose end is covered by an old loose end
 abbrev pub LeavesGrow : Type 0

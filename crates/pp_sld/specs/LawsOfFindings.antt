@@ -10,7 +10,7 @@ use Rattle.pp_sld.specs.Trace.{Leaf, leaves}
 use Rattle.pp_sld.specs.Leaves.{leaf_row}
 use Rattle.pp_sld.specs.Verdicts.{Mode, most, verdict}
 use Rattle.pp_sld.specs.Findings.{Finding, finds_most, finding, finding_of, empty, join_finding, outcome, settled}
-use Rattle.pp_sld.specs.Lattice.{IsUnder, RowsUnder, LeavesUnder, Fits, IsBelow, add_answer, add_loose}
+use Rattle.pp_sld.specs.Lattice.{RowsUnder, LeavesUnder, Fits, IsBelow, add_answer, add_loose}
 
 -- ===== the findings of lists
 

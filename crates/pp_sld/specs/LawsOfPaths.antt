@@ -4,7 +4,7 @@ use Rattle.std.specs.List.{slice_get}
 use Rattle.pp_sld.specs.Goals.{Program, Config}
 use Rattle.pp_sld.specs.Ways.{Way, Leads, IsDead, finished, left_loose, fails, one, choices, next}
 use Rattle.pp_sld.specs.Trees.{Search, IsSearch}
-use Rattle.pp_sld.specs.Trace.{answers_with, loose_with, leaves}
+use Rattle.pp_sld.specs.Trace.{leaves}
 use Rattle.pp_sld.specs.Paths.{at_path, PathComesTo}
 use Rattle.pp_sld.specs.Reach.{Passes, Chosen, Reaches, Stands, Misses}
 

@@ -1,13 +1,10 @@
 -- The laws of works and paths, as statements.
-use Rattle.std.specs.Prelude.{◌≡◌, ℕ, ◌<◌, ◌⊎◌, List, [], ◌∷◌, ◌++◌, Option, Some, None, length}
+use Rattle.std.specs.Prelude.{◌≡◌, ℕ, ◌<◌, ◌⊎◌, List, ◌++◌, Some, None}
 use Rattle.pp_algebra.specs.Covers.{IsIn}
-use Rattle.pp_sld.specs.Goals.{Program, Config}
-use Rattle.pp_sld.specs.Ways.{Way, IsDead, choices, next as next_of}
-use Rattle.pp_sld.specs.Trees.{Search, IsSearch}
+use Rattle.pp_sld.specs.Trees.{Search}
 use Rattle.pp_sld.specs.Trace.{Leaf, leaves}
-use Rattle.pp_sld.specs.Paths.{at_path, PathComesTo}
+use Rattle.pp_sld.specs.Paths.{PathComesTo}
 use Rattle.pp_sld.specs.Works.{Level, Work, spent, at, places, worth, path_worth, down, next, split, IsLater}
-use Rattle.pp_sld.specs.Reach.{Chosen, Reaches, Stands, Misses}
 
 -- on to the next sibling: what is given up are the leaves at the path alone
 abbrev pub NextKeeps : Type 0

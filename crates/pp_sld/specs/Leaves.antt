@@ -1,5 +1,5 @@
 -- The search of one goal: its root, its call, and the rows of its answers and loose ends.
-use Rattle.std.specs.Prelude.{◌≡◌, ℕ, zero, suc, nat_eq, List, [], ◌∷◌, ◌++◌, map, length}
+use Rattle.std.specs.Prelude.{◌≡◌, ℕ, zero, suc, nat_eq, List, [], ◌∷◌, map, length}
 use Rattle.pp_algebra.specs.Terms.{variable, Trees, none, more}
 use Rattle.pp_algebra.specs.Rows.{Row, domain_at}
 use Rattle.pp_algebra.specs.Canon.{canon}

@@ -20,3 +20,4 @@ pub mod LawsOfPaths
 pub mod LawsOfWorks
 pub mod LawsOfReports
 pub mod Examples
+pub mod SearchExamples

@@ -1,5 +1,6 @@
 //! Worked examples of the definitions.
 ghost use Rattle.pp_sld.specs.Examples.{ProductBeyondFails, ProductBinds, FactorWaits, PlusBindsTheThird, PlusTests, AtomFails, IndomainSplits, ComparisonWaits, MostNarrows, MostIsUnfinished, MostIsSame, UniqueNarrows, ConsistentSaysNothing, NoLeafFails};
+ghost use Rattle.pp_sld.specs.SearchExamples.{EndsFollow, FactsAreTried, BuiltInIsPassed, LeftmostIsSelected, LeavesInOrder, PathsSkipBuiltIns, WorkGoesOn, WorkSplits, WorksInOrder, FindingsSettle, WalkStops};
 
 /// What the built-ins decide on some arguments.
 pub fn worked_decisions()
@@ -21,4 +22,23 @@ pub fn worked_verdicts()
     ensures unique_narrows { UniqueNarrows }
     ensures consistent_says_nothing { ConsistentSaysNothing }
     ensures no_leaf_fails { NoLeafFails }
+{}
+
+/// What follows a configuration, and its search tree.
+pub fn worked_searches()
+    ensures ends_follow { EndsFollow }
+    ensures facts_are_tried { FactsAreTried }
+    ensures built_in_is_passed { BuiltInIsPassed }
+    ensures leftmost_is_selected { LeftmostIsSelected }
+{}
+
+/// The leaves of a tree, its paths and works, and where walks stop.
+pub fn worked_works()
+    ensures leaves_in_order { LeavesInOrder }
+    ensures paths_skip_built_ins { PathsSkipBuiltIns }
+    ensures work_goes_on { WorkGoesOn }
+    ensures work_splits { WorkSplits }
+    ensures works_in_order { WorksInOrder }
+    ensures findings_settle { FindingsSettle }
+    ensures walk_stops { WalkStops }
 {}

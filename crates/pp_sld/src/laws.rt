@@ -1,6 +1,6 @@
 //! The laws of search.
 ghost use Rattle.pp_sld.specs.Ways.{Way, Goes};
-ghost use Rattle.pp_sld.specs.Laws.{LeadsOnce, HasAtMostOneSearch, HasOneSearch, HasOneListOfLeaves, HasOneVerdict, LeafRowCovers, CallCoversLeaves, LeavesHaveWidth, LeavesGrow, GrownKeepsVerdict, Deepens, WalkGivesVerdict, WalkIsAtMost, LeafHasNoWalk};
+ghost use Rattle.pp_sld.specs.Laws.{LeadsOnce, HasAtMostOneSearch, HasOneSearch, HasOneListOfLeaves, HasOneVerdict, LeafRowCovers, CallCoversLeaves, LeavesHaveWidth, LeavesAreRows, CallIsRow, LeavesGrow, GrownKeepsVerdict, Deepens, WalkGivesVerdict, WalkIsAtMost, LeafHasNoWalk};
 
 /// A way leads to at most one configuration, and a configuration has at most one search tree.
 pub fn search_is_unique()
@@ -21,11 +21,14 @@ pub fn verdict_is_unique()
 {}
 
 /// What a search finds lies under its call: each answer and each loose end is a canonical row, with a column for
-/// each variable of the face, and the call covers it. What is found below a configuration lies under its row.
+/// each variable of the face, and the call covers it. What is found below a configuration lies under its row. Where
+/// the face's domains are wide, so are those of what is found.
 pub fn call_covers_what_is_found()
     ensures below { LeafRowCovers }
     ensures covers { CallCoversLeaves }
     ensures width { LeavesHaveWidth }
+    ensures rows { LeavesAreRows }
+    ensures call { CallIsRow }
 {}
 
 /// A search that is given more depth keeps its answers, and what it finds more lies under its loose ends. So it may

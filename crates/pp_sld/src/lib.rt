@@ -8,7 +8,7 @@ mod findings;
 mod laws;
 mod works;
 
-pub use examples::{worked_decisions, worked_verdicts};
+pub use examples::{worked_decisions, worked_searches, worked_verdicts, worked_works};
 pub use findings::{
     covered_rows_add_nothing, findings_are_a_lattice, findings_fit, findings_give_the_verdict,
 };
