@@ -19,7 +19,7 @@ use Rattle.pp_language.specs.Statements.{BodyItem}
 use Rattle.pp_language.specs.Meanings.{blanks_all, keyed_all, keyed_lists, keys_in, said_arguments, body_phrases, goals_by, clause_by}
 use Rattle.pp_language.specs.Limits.{variable_count}
 use Rattle.pp_read.specs.Sizes.{variables_of}
-use Rattle.pp_read.proofs.KnownTexts.{is_in}
+use Rattle.pp_parse.proofs.KnownTexts.{is_in}
 use Rattle.pp_read.proofs.ListKeys.{list_keys, lists_same}
 use Rattle.pp_read.proofs.MadeStatements.{clause_lists}
 

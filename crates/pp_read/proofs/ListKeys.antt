@@ -10,8 +10,8 @@ use Rattle.pp_language.specs.Keys.{Key, same_key, named_first, texts_of, numbere
 use Rattle.pp_language.specs.Phrases.{Phrases}
 use Rattle.pp_language.specs.Meanings.{blanks_all, keyed_all, keyed_lists, keys_in}
 use Rattle.pp_language.specs.Limits.{variable_count}
-use Rattle.pp_read.specs.Terms.{terms_of}
-use Rattle.pp_read.proofs.KnownTexts.{Known, all_first, all_second, firsts_known}
+use Rattle.pp_parse.specs.Terms.{terms_of}
+use Rattle.pp_parse.proofs.KnownTexts.{Known, all_first, all_second, firsts_known}
 use Rattle.pp_read.proofs.Keys.{no_name, blank_keys, blank_keys-append, texts_of-append, keys_by, named_first-is, named_first-length, texts_of-keys, keys-length}
 use Rattle.pp_read.proofs.PhraseKeys.{all_keys, all_same, all_numbered}
 

@@ -17,20 +17,20 @@ use Rattle.pp_term.specs.declared.pred.Shape.TheVariants.{User}
 use Rattle.pp_term.specs.Columns.{trees_of}
 use Rattle.pp_term.specs.Meanings.{predicate_of, goal_of, clause_of}
 use Rattle.pp_term.specs.WellFormed.{IsClause, AreArguments}
-use Rattle.pp_read.specs.declared.parts.Part.{Part}
-use Rattle.pp_read.specs.declared.items.Entry.{Entry}
-use Rattle.pp_read.specs.Terms.{terms_of}
+use Rattle.pp_parse.specs.declared.parts.Part.{Part}
+use Rattle.pp_parse.specs.declared.items.Entry.{Entry}
+use Rattle.pp_parse.specs.Terms.{terms_of}
 use Rattle.pp_read.specs.Pieces.{tree_at, predicate_of_tree}
 use Rattle.pp_read.specs.Values.{goal_from}
 use Rattle.pp_read.specs.Passed.{is_wide}
 use Rattle.pp_read.specs.Sizes.{variables_of, IsCounted}
-use Rattle.pp_read.specs.Sentences.{IsKnown}
-use Rattle.pp_read.specs.Layouts.{IsBodyEntry, AreEntries}
-use Rattle.pp_read.proofs.KnownTexts.{Known, firsts_known}
+use Rattle.pp_parse.specs.Parsed.{IsKnown}
+use Rattle.pp_parse.specs.Layouts.{IsBodyEntry, AreEntries}
+use Rattle.pp_parse.proofs.KnownTexts.{Known, firsts_known}
 use Rattle.pp_read.proofs.ListKeys.{list_keys, list_blanks, list_terms}
-use Rattle.pp_read.proofs.PhraseTerms.{spelled_all}
+use Rattle.pp_parse.proofs.Spelled.{spelled_all}
 use Rattle.pp_read.proofs.PartsAt.{parts_wide, good_all}
-use Rattle.pp_read.proofs.ReadingLeaves.{terms-count}
+use Rattle.pp_parse.proofs.ReadingLeaves.{terms-count}
 use Rattle.pp_read.proofs.MadeStatements.{clause_lists, head_saying, clause_keys, clause_named, clause_counted, ClauseMade, clause_made, make_pair, make_clause, clause_is}
 use Rattle.pp_read.proofs.Counted.{variables_counted}
 use Rattle.pp_read.proofs.WellMade.{Below, lists_below, call_made, goals_made}

@@ -18,18 +18,18 @@ use Rattle.pp_language.specs.Phrases.{Phrase, integer_phrase, variable_phrase, s
 use Rattle.pp_language.specs.Statements.{BodyItem, calls, equates, belongs, compares, set_parts, body_parts, is_body_item}
 use Rattle.pp_language.specs.Meanings as meanings
 use Rattle.pp_language.specs.Meanings.{texts_by, blanks, body_phrases, body_shape, goals_by, predicate_by}
-use Rattle.pp_read.specs.declared.parts.Part.{Part}
-use Rattle.pp_read.specs.declared.items.Entry.{Entry}
-use Rattle.pp_read.specs.declared.items.Entry.TheVariants.{Call, Equate, Member, Compare, Infer}
-use Rattle.pp_read.specs.Words.{texts_in}
-use Rattle.pp_read.specs.Terms.{term_of, terms_of}
-use Rattle.pp_read.specs.Parts.{AreParts}
+use Rattle.pp_parse.specs.declared.parts.Part.{Part}
+use Rattle.pp_parse.specs.declared.items.Entry.{Entry}
+use Rattle.pp_parse.specs.declared.items.Entry.TheVariants.{Call, Equate, Member, Compare, Infer}
+use Rattle.pp_parse.specs.Words.{texts_in}
+use Rattle.pp_parse.specs.Terms.{term_of, terms_of}
+use Rattle.pp_parse.specs.Parts.{AreParts}
 use Rattle.pp_read.specs.Pieces.{tree_at, HasTermAt, IsAtom, predicate_of_tree}
 use Rattle.pp_read.specs.Values.{shape_by, goal_of_tree, goal_from, HasSayingAt, IsGoalEntry}
-use Rattle.pp_read.specs.Layouts.{IsBodyEntry}
-use Rattle.pp_read.proofs.KnownTexts.{Known}
-use Rattle.pp_read.proofs.NamePlaces.{name-place, place-within}
-use Rattle.pp_read.proofs.ReadingLeaves.{terms-count}
+use Rattle.pp_parse.specs.Layouts.{IsBodyEntry}
+use Rattle.pp_parse.proofs.KnownTexts.{Known}
+use Rattle.pp_parse.proofs.NamePlaces.{name-place, place-within}
+use Rattle.pp_parse.proofs.ReadingLeaves.{terms-count}
 use Rattle.pp_read.proofs.PartsAt.{get_drop, HasCells, term_first, term_third, Stands, stands, IsGood, AreGood}
 
 -- ===== shapes

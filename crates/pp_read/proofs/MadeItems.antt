@@ -11,11 +11,11 @@ use Rattle.pp_language.specs.Phrases as phrases
 use Rattle.pp_language.specs.Phrases.{Phrases, mark, parts_words}
 use Rattle.pp_language.specs.Statements.{items_parts}
 use Rattle.pp_language.specs.Meanings.{blanks_all}
-use Rattle.pp_read.specs.declared.parts.Part.{Part}
-use Rattle.pp_read.specs.declared.items.Entry.{Entry}
-use Rattle.pp_read.specs.Terms.{terms_of}
-use Rattle.pp_read.specs.Parts.{AreParts}
-use Rattle.pp_read.specs.Layouts.{AreEntries}
+use Rattle.pp_parse.specs.declared.parts.Part.{Part}
+use Rattle.pp_parse.specs.declared.items.Entry.{Entry}
+use Rattle.pp_parse.specs.Terms.{terms_of}
+use Rattle.pp_parse.specs.Parts.{AreParts}
+use Rattle.pp_parse.specs.Layouts.{AreEntries}
 use Rattle.pp_read.proofs.ListKeys.{list_terms}
 use Rattle.pp_read.proofs.PartsAt.{parts_blanks, behind, AreGood, good_first, good_second}
 

@@ -22,22 +22,22 @@ use Rattle.pp_term.specs.declared.query.Item.TheVariants as items
 use Rattle.pp_term.specs.declared.query.Query.{Query}
 use Rattle.pp_term.specs.Meanings.{item_of, query_of}
 use Rattle.pp_term.specs.WellFormed.{IsQuery}
-use Rattle.pp_read.specs.declared.parts.Part.{Part}
-use Rattle.pp_read.specs.declared.items.Entry.{Entry}
-use Rattle.pp_read.specs.declared.items.Entry.TheVariants.{Call, Equate, Member, Compare, Infer}
+use Rattle.pp_parse.specs.declared.parts.Part.{Part}
+use Rattle.pp_parse.specs.declared.items.Entry.{Entry}
+use Rattle.pp_parse.specs.declared.items.Entry.TheVariants.{Call, Equate, Member, Compare, Infer}
 use Rattle.pp_read.specs.Values.{item_from, IsItemEntry}
 use Rattle.pp_read.specs.Sizes.{is_annotated}
 use Rattle.pp_read.specs.Passed.{is_wide, is_infer, query_passed}
-use Rattle.pp_read.specs.Sentences.{IsKnown}
-use Rattle.pp_read.specs.Layouts.{IsQueryEntry, AreEntries}
-use Rattle.pp_read.proofs.KnownTexts.{Known, firsts_known}
+use Rattle.pp_parse.specs.Parsed.{IsKnown}
+use Rattle.pp_parse.specs.Layouts.{IsQueryEntry, AreEntries}
+use Rattle.pp_parse.proofs.KnownTexts.{Known, firsts_known}
 use Rattle.pp_read.proofs.Keys.{keys_by}
 use Rattle.pp_read.proofs.ListKeys.{list_keys, list_blanks, list_terms, AreKeys, keys_of_all}
 use Rattle.pp_read.proofs.PartsAt.{parts_blanks, parts_wide, behind, good_all}
 use Rattle.pp_read.proofs.PartTexts.{words_texts, words_blanks, query_texted, items_texts, items_blanks, items_wide}
 use Rattle.pp_read.proofs.MadeItems.{values, all_made}
 use Rattle.pp_read.proofs.MadeQuery.{query_made}
-use Rattle.pp_read.proofs.PhraseTerms.{spelled_all}
+use Rattle.pp_parse.proofs.Spelled.{spelled_all}
 use Rattle.pp_read.proofs.MadeClauses.{saying_arguments, two_are}
 use Rattle.pp_read.proofs.WellMade.{Below, lists_below, items_made}
 

@@ -11,14 +11,14 @@ use Rattle.pp_language.specs.Phrases.{Phrase, integer_phrase, variable_phrase, s
 use Rattle.pp_language.specs.Statements.{QueryPhrase, asks_equal, asks_member, asks_infer, mode_text, set_parts, query_parts, is_query_phrase}
 use Rattle.pp_language.specs.Meanings as meanings
 use Rattle.pp_language.specs.Meanings.{blanks, query_phrases, item_by}
-use Rattle.pp_read.specs.declared.parts.Part.{Part}
-use Rattle.pp_read.specs.declared.items.Entry.{Entry}
-use Rattle.pp_read.specs.declared.items.Entry.TheVariants.{Call, Equate, Member, Compare, Infer}
-use Rattle.pp_read.specs.Terms.{term_of, terms_of}
-use Rattle.pp_read.specs.Parts.{AreParts}
+use Rattle.pp_parse.specs.declared.parts.Part.{Part}
+use Rattle.pp_parse.specs.declared.items.Entry.{Entry}
+use Rattle.pp_parse.specs.declared.items.Entry.TheVariants.{Call, Equate, Member, Compare, Infer}
+use Rattle.pp_parse.specs.Terms.{term_of, terms_of}
+use Rattle.pp_parse.specs.Parts.{AreParts}
 use Rattle.pp_read.specs.Pieces.{tree_at, HasTermAt}
 use Rattle.pp_read.specs.Values.{goal_of_tree, item_from, HasSayingAt, IsItemEntry}
-use Rattle.pp_read.specs.Layouts.{IsQueryEntry}
+use Rattle.pp_parse.specs.Layouts.{IsQueryEntry}
 use Rattle.pp_read.proofs.MadeGoals.{known_name, called, phrase_stands, two_stand}
 use Rattle.pp_read.proofs.PartsAt.{AreGood}
 

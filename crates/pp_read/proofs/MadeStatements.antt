@@ -19,16 +19,16 @@ use Rattle.pp_language.specs.Phrases.{Phrase, integer_phrase, variable_phrase, s
 use Rattle.pp_language.specs.Statements.{BodyItem, clause, body_parts, items_parts, statement_parts, is_saying, is_head, is_body_item}
 use Rattle.pp_language.specs.Meanings.{blanks, blanks_all, keyed_all, said_arguments, body_phrases, body_shape, goals_by, head_predicate, clause_by, keyed_lists, keys_in}
 use Rattle.pp_language.specs.Limits.{is_above, is_too_wide, body_too_wide, when, passed}
-use Rattle.pp_read.specs.declared.parts.Part.{Part}
-use Rattle.pp_read.specs.declared.items.Entry.{Entry}
-use Rattle.pp_read.specs.Words.{named_in}
-use Rattle.pp_read.specs.Terms.{terms_of}
-use Rattle.pp_read.specs.Parts.{AreParts}
+use Rattle.pp_parse.specs.declared.parts.Part.{Part}
+use Rattle.pp_parse.specs.declared.items.Entry.{Entry}
+use Rattle.pp_parse.specs.Words.{named_in}
+use Rattle.pp_parse.specs.Terms.{terms_of}
+use Rattle.pp_parse.specs.Parts.{AreParts}
 use Rattle.pp_read.specs.Pieces.{tree_at, predicate_of_tree}
 use Rattle.pp_read.specs.Values.{goal_from, HasSayingAt, IsGoalEntry}
 use Rattle.pp_read.specs.Passed.{is_wide, clause_passed}
-use Rattle.pp_read.specs.Sentences.{IsKnown}
-use Rattle.pp_read.specs.Layouts.{IsBodyEntry, AreEntries}
+use Rattle.pp_parse.specs.Parsed.{IsKnown}
+use Rattle.pp_parse.specs.Layouts.{IsBodyEntry, AreEntries}
 use Rattle.pp_read.proofs.Keys.{keys_by, texts_of-append}
 use Rattle.pp_read.proofs.ListKeys.{list_keys, list_blanks, list_terms, AreKeys, keys_of_all}
 use Rattle.pp_read.proofs.PartsAt.{IsGood, part_wide, parts_blanks, parts_wide, behind, AreGood}

@@ -14,7 +14,7 @@ use Rattle.pp_language.specs.PartsOf.{is_mark, are_parts}
 use Rattle.pp_language.specs.Statements.{Bounds, one_bound, two_bounds, SetPhrase, bare, bracketed, BodyItem, calls, equates, belongs, compares, QueryPhrase, asks_equal, asks_member, asks_infer, mode_text, bounds_parts, more_bounds_parts, set_parts, body_parts, query_parts, items_parts, is_body_item, is_query_phrase, is_comparison, is_saying}
 use Rattle.pp_language.specs.Meanings.{blanks, blanks_all, keyed, keyed_all, said_arguments, two_phrases, body_phrases, query_phrases}
 use Rattle.pp_language.specs.Limits.{is_too_wide, body_too_wide, query_too_wide}
-use Rattle.pp_read.specs.Words.{named_by, named_in, blanks_by, blanks_in}
+use Rattle.pp_parse.specs.Words.{named_by, named_in, blanks_by, blanks_in}
 use Rattle.pp_read.proofs.Keys.{texts_of-append}
 use Rattle.pp_read.proofs.PhraseKeys.{name_named, named_in-append, blanks_in-append, phrase_texts, phrase_blanks}
 use Rattle.pp_read.proofs.ListKeys.{list_keys, list_blanks}

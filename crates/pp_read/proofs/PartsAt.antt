@@ -15,15 +15,16 @@ use Rattle.pp_language.specs.Phrases.{Phrase, term_part, mark, phrase_words, par
 use Rattle.pp_language.specs.Meanings.{texts_by, blanks}
 use Rattle.pp_language.specs.Limits.{is_too_wide}
 use Rattle.pp_language.proofs.PartsSpelled.{AreSpelled}
-use Rattle.pp_read.specs.declared.parts.Part.{Part}
-use Rattle.pp_read.specs.declared.parts.Part.TheVariants.{Term, Mark}
-use Rattle.pp_read.specs.Words.{texts_in}
-use Rattle.pp_read.specs.Terms.{term_of}
-use Rattle.pp_read.specs.Parts.{part_blanks, AreParts}
+use Rattle.pp_parse.specs.declared.parts.Part.{Part}
+use Rattle.pp_parse.specs.declared.parts.Part.TheVariants.{Term, Mark}
+use Rattle.pp_parse.specs.Words.{texts_in}
+use Rattle.pp_parse.specs.Terms.{term_of}
+use Rattle.pp_parse.specs.Parts.{part_blanks, AreParts}
 use Rattle.pp_read.specs.Pieces.{part_tree, tree_at, IsTermPart, HasTermAt}
 use Rattle.pp_read.specs.Passed.{is_wide}
-use Rattle.pp_read.proofs.KnownTexts.{Known, all_first, all_second}
-use Rattle.pp_read.proofs.PhraseTerms.{spelled_first, spelled_second, is_wide_cell, phrase_wide, phrase_legal}
+use Rattle.pp_parse.proofs.KnownTexts.{Known, all_first, all_second}
+use Rattle.pp_parse.proofs.Spelled.{spelled_first, spelled_second}
+use Rattle.pp_read.proofs.PhraseTerms.{is_wide_cell, phrase_wide, phrase_legal}
 use Rattle.std.proofs.lemmas.Grind.{flat_map-append}
 
 -- ===== places

@@ -12,9 +12,9 @@ use Rattle.pp_language.specs.Words.{Word, is_name_kind, atom_of}
 use Rattle.pp_language.specs.Keys.{Key, named, unnamed, same_key, key_of, texts_of}
 use Rattle.pp_language.specs.Phrases.{Phrase, integer_phrase, variable_phrase, said, Phrases, no_phrases, phrase_and, phrase_words, group_words, more_phrase_words, is_phrase, are_phrases}
 use Rattle.pp_language.specs.Meanings.{blanks, blanks_all, keyed, keyed_all}
-use Rattle.pp_read.specs.Words.{named_by, named_in, blanks_by, blanks_in}
-use Rattle.pp_read.specs.Terms.{number_of, term_of, terms_of}
-use Rattle.pp_read.proofs.KnownTexts.{Known, all_first, all_second}
+use Rattle.pp_parse.specs.Words.{named_by, named_in, blanks_by, blanks_in}
+use Rattle.pp_parse.specs.Terms.{number_of, term_of, terms_of}
+use Rattle.pp_parse.proofs.KnownTexts.{Known, all_first, all_second}
 use Rattle.pp_read.proofs.Keys.{no_name, blank_keys, blank_keys-append, texts_of-append, keys_by, place-named, place-unnamed}
 
 -- ===== words one after another

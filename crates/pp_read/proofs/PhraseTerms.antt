@@ -22,26 +22,13 @@ use Rattle.pp_language.specs.Phrases.{Phrase, integer_phrase, variable_phrase, s
 use Rattle.pp_language.specs.Meanings.{integer_of, blanks, blanks_all}
 use Rattle.pp_language.specs.Limits.{is_above, is_too_wide, are_too_wide}
 use Rattle.pp_language.proofs.PartsSpelled.{AreSpelled}
-use Rattle.pp_read.specs.Words.{named_by, named_in}
-use Rattle.pp_read.specs.Terms.{number_of, term_of, terms_of}
-use Rattle.pp_read.proofs.KnownTexts.{Known, all_first, all_second}
+use Rattle.pp_parse.specs.Words.{named_by, named_in}
+use Rattle.pp_parse.specs.Terms.{number_of, term_of, terms_of}
+use Rattle.pp_parse.proofs.KnownTexts.{Known, all_first, all_second}
 use Rattle.pp_read.proofs.PhraseKeys.{named_in-append}
-use Rattle.pp_read.proofs.NamePlaces.{place-within}
-use Rattle.pp_read.proofs.ReadingLeaves.{terms-count}
-
--- ===== spelled words
-
-pub spelled_first : (ws vs : List Word) → AreSpelled (ws ++ vs) → AreSpelled ws
-spelled_first [] vs h = tt
-spelled_first (w ∷ ws) vs h = (h.0, spelled_first ws vs h.1)
-
-pub spelled_second : (ws vs : List Word) → AreSpelled (ws ++ vs) → AreSpelled vs
-spelled_second [] vs h = h
-spelled_second (w ∷ ws) vs h = spelled_second ws vs h.1
-
-pub spelled_all : (ws : List Word) → All (λ w. IsTrue (spells w.kind w.text)) ws → AreSpelled ws
-spelled_all [] h = tt
-spelled_all (w ∷ ws) h = (All-head (λ v. IsTrue (spells v.kind v.text)) w ws h, spelled_all ws (All-tail (λ v. IsTrue (spells v.kind v.text)) w ws h))
+use Rattle.pp_parse.proofs.NamePlaces.{place-within}
+use Rattle.pp_parse.proofs.Spelled.{spelled_first, spelled_second, integer_legal}
+use Rattle.pp_parse.proofs.ReadingLeaves.{terms-count}
 
 -- ===== wide atoms
 
@@ -69,17 +56,6 @@ module _ (names named : List Text) where
         ∙ ap (λ b. is_too_wide p || b) (all_wide (n + blanks p) ps)
 
 -- ===== legal cells
-
-within : (v : ℕ) → v ≤ greatest_size → IsInteger (pos v) × IsInteger (pos 0 -ℤ pos v)
-within v h = ((omega (arith, ints), omega (arith, ints)), (omega (arith, ints), omega (arith, ints)))
-
-pub integer_legal : (bs : Text) → is_integer_text bs ≡ true → IsInteger (integer_of bs)
-integer_legal [] h = absurd (cc)
-integer_legal (b ∷ bs) h =
-    elim (nat_eq b 45) as (λ t. value_of 0 (cond t bs (b ∷ bs)) ≤ greatest_size → IsInteger (cond t (pos 0 -ℤ pos (value_of 0 bs)) (pos (value_of 0 (b ∷ bs))))) [
-      | true ↦ λ l. (within (value_of 0 bs) l).1
-      | false ↦ λ l. (within (value_of 0 (b ∷ bs)) l).0
-    ] (leb-true _ _ (and_parts (is_number_text (b ∷ bs)) (nat_le (value_of 0 (digits_of (b ∷ bs))) greatest_size) h).1)
 
 head_legal : (f k : ℕ) → is_above 255 k ≡ false → IsLegalCell (head_of f k)
 head_legal f zero h = tt

@@ -11,12 +11,12 @@ use Rattle.pp_language.specs.Statements.{Statement, is_query, Says}
 use Rattle.pp_language.specs.Faults.{AllSay, IsFault}
 use Rattle.pp_lex.specs.declared.lists.Sentence.{Sentence}
 use Rattle.pp_read.specs.declared.progress.Progress.{Progress}
-use Rattle.pp_read.specs.Words.{words_of, texts_in}
+use Rattle.pp_parse.specs.Words.{words_of, texts_in}
 use Rattle.pp_read.specs.Sentences.{IsMade, IsSaid}
 use Rattle.pp_read.specs.declared.sentence.Said.{Said}
 use Rattle.pp_read.specs.Progress.{IsProgress}
 use Rattle.pp_read.specs.Programs.{list_words, AsksLast, AreAllRead}
-use Rattle.pp_read.proofs.KnownTexts.{Known}
+use Rattle.pp_parse.proofs.KnownTexts.{Known}
 use Rattle.pp_read.proofs.FirstFaults.{say_push, asks_push, wrong_fault, behind_fault}
 use Rattle.pp_read.proofs.WholeTexts.{take_all}
 

@@ -17,17 +17,18 @@ use Rattle.pp_term.specs.declared.clause.Clause as clauses
 use Rattle.pp_term.specs.declared.query.Query as queries
 use Rattle.pp_term.specs.Columns.{trees_of}
 use Rattle.pp_term.specs.Meanings.{predicate_of, goal_of, item_of}
-use Rattle.pp_read.specs.declared.parts.Part.{Part}
-use Rattle.pp_read.specs.declared.items.Entry.{Entry}
-use Rattle.pp_read.specs.declared.statement.Layout.{Layout}
-use Rattle.pp_read.specs.declared.statement.Layout.TheVariants as layouts
+use Rattle.pp_parse.specs.declared.parts.Part.{Part}
+use Rattle.pp_parse.specs.declared.items.Entry.{Entry}
+use Rattle.pp_parse.specs.declared.statement.Layout.{Layout}
+use Rattle.pp_parse.specs.declared.statement.Layout.TheVariants as layouts
 use Rattle.pp_read.specs.declared.sentence.Said.TheVariants.{Directive, Clause, Query, OverClause, OverQuery}
 use Rattle.pp_read.specs.Pieces.{tree_at, predicate_of_tree}
 use Rattle.pp_read.specs.Values.{goal_from, item_from, HasSayingAt, IsGoalEntry, IsItemEntry}
 use Rattle.pp_read.specs.Sizes.{is_annotated}
 use Rattle.pp_read.specs.Passed.{is_wide, is_infer, clause_passed, query_passed}
-use Rattle.pp_read.specs.Layouts.{IsBodyEntry, IsQueryEntry, AreEntries, IsLayout}
-use Rattle.pp_read.specs.Sentences.{IsKnown, IsReady, IsMade}
+use Rattle.pp_parse.specs.Layouts.{IsBodyEntry, IsQueryEntry, AreEntries, IsLayout}
+use Rattle.pp_parse.specs.Parsed.{IsKnown, IsReady}
+use Rattle.pp_read.specs.Sentences.{IsMade}
 use Rattle.pp_read.proofs.MadeStatements.{clause_limit_is}
 use Rattle.pp_read.proofs.MadeClauses.{clause_parts, clause_written}
 use Rattle.pp_read.proofs.MadeQueries.{infers_counted, query_limit_is, query_parts_made, query_written}

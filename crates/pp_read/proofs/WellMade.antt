@@ -27,13 +27,13 @@ use Rattle.pp_term.specs.declared.query.Item.TheVariants as items
 use Rattle.pp_term.specs.Columns.{trees_of}
 use Rattle.pp_term.specs.Meanings.{shape_of, goal_of, item_of}
 use Rattle.pp_term.specs.WellFormed.{arguments_of, AreArguments, IsGoal, IsItem}
-use Rattle.pp_read.specs.Terms.{term_of, terms_of}
-use Rattle.pp_read.proofs.KnownTexts.{Known, all_first, all_second}
+use Rattle.pp_parse.specs.Terms.{term_of, terms_of}
+use Rattle.pp_parse.proofs.KnownTexts.{Known, all_first, all_second}
 use Rattle.pp_read.proofs.Keys.{texts_of-append}
 use Rattle.pp_read.proofs.PhraseKeys.{group_texts}
 use Rattle.pp_read.proofs.PhraseTerms.{group_below}
 use Rattle.pp_read.proofs.ListKeys.{list_keys, list_blanks, list_terms}
-use Rattle.pp_read.proofs.ReadingLeaves.{terms-count}
+use Rattle.pp_parse.proofs.ReadingLeaves.{terms-count}
 use Rattle.pp_read.proofs.MadeGoals.{make_goal}
 
 -- ===== variables

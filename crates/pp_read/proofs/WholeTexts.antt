@@ -26,12 +26,12 @@ use Rattle.pp_lex.specs.declared.lists.Sentence.{Sentence}
 use Rattle.pp_lex.specs.Readings.{tokens_of}
 use Rattle.pp_read.specs.declared.progress.Progress.{Progress}
 use Rattle.pp_read.specs.declared.program.Program.{Program}
-use Rattle.pp_read.specs.Words.{words_of, texts_in}
+use Rattle.pp_parse.specs.Words.{words_of, texts_in}
 use Rattle.pp_read.specs.Sizes.{IsReadQuery}
 use Rattle.pp_read.specs.Progress.{IsAsked}
 use Rattle.pp_read.specs.Programs.{written_of, list_words, AreAllRead}
-use Rattle.pp_read.proofs.KnownTexts.{Known, all_first, all_second, firsts_known}
-use Rattle.pp_read.proofs.TokenWords.{all_words}
+use Rattle.pp_parse.proofs.KnownTexts.{Known, all_first, all_second, firsts_known}
+use Rattle.pp_parse.proofs.TokenWords.{all_words}
 use Rattle.pp_read.proofs.Progressing.{behind, clauses-counted}
 use Rattle.pp_read.proofs.FirstFaults.{ends_in_query}
 

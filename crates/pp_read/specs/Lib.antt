@@ -1,15 +1,4 @@
-pub mod Words
-pub mod Terms
-pub mod Parts
-pub mod Leaves
-pub mod Reading
 pub mod Pieces
-pub mod Seen
-pub mod Fronts
-pub mod Found
-pub mod Sets
-pub mod Items
-pub mod Layouts
 pub mod Values
 pub mod Passed
 pub mod Sizes

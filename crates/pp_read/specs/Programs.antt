@@ -13,7 +13,7 @@ use Rattle.pp_read.specs.declared.program.Program.{Program}
 use Rattle.pp_read.specs.declared.progress.Progress.{Progress}
 use Rattle.pp_read.specs.declared.fault.ReadFault.{ReadFault}
 use Rattle.pp_read.specs.declared.fault.ReadFault.TheVariants.{Syntax, Limit, Memory}
-use Rattle.pp_read.specs.Words.{words_of}
+use Rattle.pp_parse.specs.Words.{words_of}
 use Rattle.pp_read.specs.Progress.{IsProgress}
 
 abbrev pub written_of : Program → Written

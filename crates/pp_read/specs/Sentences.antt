@@ -11,30 +11,14 @@ use Rattle.pp_language.specs.Statements.{Statement, directive, clause, query, st
 use Rattle.pp_language.specs.Meanings.{clause_by, query_by}
 use Rattle.pp_language.specs.Limits.{passed}
 use Rattle.pp_term.specs.Meanings.{clause_of, query_of}
-use Rattle.pp_read.specs.declared.parts.Part.{Part}
-use Rattle.pp_read.specs.declared.statement.Layout.{Layout}
+use Rattle.pp_parse.specs.declared.parts.Part.{Part}
+use Rattle.pp_parse.specs.declared.statement.Layout.{Layout}
 use Rattle.pp_read.specs.declared.sentence.Said.{Said}
 use Rattle.pp_read.specs.declared.sentence.Said.TheVariants.{Directive, Clause, Query, OverClause, OverQuery}
-use Rattle.pp_read.specs.Words.{texts_in, named_in, blanks_in}
-use Rattle.pp_read.specs.Parts.{AreParts}
-use Rattle.pp_read.specs.Layouts.{IsLayout}
+use Rattle.pp_parse.specs.Words.{texts_in, named_in, blanks_in}
+use Rattle.pp_parse.specs.Parts.{AreParts}
+use Rattle.pp_parse.specs.Layouts.{IsLayout}
 use Rattle.pp_read.specs.Sizes.{IsReadClause, IsReadQuery}
-
--- the code's parts are these, over names that hold all atoms and over the sentence's variables
-pub record IsKnown (names named : List Text) (count : ℕ) (qs : List phrases.Part) (ps : List Part) : Type 0 where
-  pub named_is : named ≡ firsts same_text [] (named_in (parts_words qs))
-  pub count_is : count ≡ blanks_in (parts_words qs)
-  pub known : All (λ x. IsTrue (has same_text names x)) (texts_in (parts_words qs))
-  pub spelled : All (λ w. IsTrue (spells w.kind w.text)) (parts_words qs)
-  pub formed : IsTrue (are_parts qs)
-  pub are : AreParts names named (length named) 0 qs ps
-
--- the parts are those of a statement with this layout
-pub record IsReady (names named : List Text) (count : ℕ) (ps : List Part) (l : Layout) : Type 0 where
-  pub statement : Statement
-  pub is_statement : IsTrue (is_statement statement)
-  pub known : IsKnown names named count (statement_parts statement) ps
-  pub layout : IsLayout statement l
 
 -- what a statement writes, with n clauses before it, or the first limit that it passes
 abbrev pub IsMade : List Text → ℕ → Statement → Said → Type 0

@@ -10,9 +10,9 @@ use Rattle.pp_language.specs.Texts.{Text, same_text}
 use Rattle.pp_language.specs.Printing.{name_at}
 use Rattle.pp_language.specs.Programs.{QueryItem, solves, infers}
 use Rattle.pp_term.specs.Meanings.{members_by, test_of, mode_of}
-use Rattle.pp_read.specs.declared.parts.Part.{Part}
-use Rattle.pp_read.specs.declared.items.Entry.{Entry}
-use Rattle.pp_read.specs.declared.items.Entry.TheVariants.{Call, Equate, Member, Compare, Infer}
+use Rattle.pp_parse.specs.declared.parts.Part.{Part}
+use Rattle.pp_parse.specs.declared.items.Entry.{Entry}
+use Rattle.pp_parse.specs.declared.items.Entry.TheVariants.{Call, Equate, Member, Compare, Infer}
 use Rattle.pp_read.specs.Pieces.{tree_at, HasTermAt, IsAtom, predicate_of_tree}
 
 -- a built-in by its name and number of arguments, or a predicate

@@ -5,28 +5,17 @@ ghost use Rattle.pp_language.specs.Limits.{is_above};
 ghost use Rattle.pp_term.specs.Cells.{arity_of};
 ghost use Rattle.pp_read.specs.Passed.{is_wide, is_infer, clause_passed, query_passed};
 
-use crate::items::Entry;
-use crate::parts::Part;
-use crate::variables::Variables;
-use pp_language::Which;
+use pp_language::{
+    ARITY_LIMIT, CLAUSE_LIMIT, CLAUSE_VARIABLE_LIMIT, GOAL_LIMIT, QUERY_VARIABLE_LIMIT, Which,
+};
+use pp_parse::{Entry, Part, Variables};
 use pp_term::Cell;
-
-/// The greatest number of clauses.
-const CLAUSE_LIMIT: usize = 65_535;
-/// The greatest number of arguments.
-const ARITY_LIMIT: u32 = 255;
-/// The greatest number of variables of a clause.
-const CLAUSE_VARIABLE_LIMIT: usize = 255;
-/// The greatest number of variables of the query.
-const QUERY_VARIABLE_LIMIT: usize = 10_000;
-/// The greatest number of annotated goals.
-const GOAL_LIMIT: usize = 1_000;
 
 /// Whether the cell has too many arguments.
 fn is_wide_cell(cell: Cell) -> bool
     ensures { result ≡ is_above 255 (arity_of cell) }
 {
-    cell.arity() > ARITY_LIMIT
+    cell.arity() as usize > ARITY_LIMIT
 }
 
 fn any_wide_cell(cells: &[Cell]) -> bool

@@ -4,15 +4,14 @@ ghost use Rattle.pp_algebra.specs.Canon.{has};
 ghost use Rattle.pp_language.specs.Texts.{same_text};
 ghost use Rattle.pp_language.specs.Tokens.{IsTokenOf};
 ghost use Rattle.pp_language.specs.Statements.{Statement, Says};
-ghost use Rattle.pp_read.specs.Words.{words_of, texts_in};
-ghost use Rattle.pp_read.specs.Sentences.{IsReady, IsMade, IsSaid};
+ghost use Rattle.pp_parse.specs.Words.{words_of, texts_in};
+ghost use Rattle.pp_parse.specs.Parsed.{IsReady};
+ghost use Rattle.pp_read.specs.Sentences.{IsMade, IsSaid};
 
+use crate::clauses::{clause, query};
 use crate::limits::{clause_limit, query_limit};
-use crate::parts::{Part, read_parts};
-use crate::statement::{Layout, layout_of};
-use crate::variables::{Variables, find_variables};
-use crate::written::{clause, query};
 use pp_language::{Token, Which};
+use pp_parse::{Layout, Parsed, Part, Variables, parse};
 use pp_term::{Clause, Names, Query};
 use std::alloc::{AllocError, Global};
 
@@ -71,12 +70,13 @@ pub(crate) fn read_sentence(
         ((s : Statement) → Says (words_of text.now tokens.now) s → ⊥)
         (IsSaid names.now clauses (words_of text.now tokens.now))) }
 {
-    let variables = find_variables(alloc, text, tokens)?;
-    let Some(parts) = read_parts(alloc, text, tokens, names, &variables)? else {
+    let Some(parsed) = parse(alloc, text, tokens, names)? else {
         return Ok(None);
     };
-    let Some(layout) = layout_of(alloc, text, tokens, names, &parts)? else {
-        return Ok(None);
-    };
+    let Parsed {
+        variables,
+        parts,
+        layout,
+    } = parsed;
     Ok(Some(make(alloc, names, &variables, &parts, layout, clauses)?))
 }

@@ -1,0 +1,17 @@
+use Rattle.std.proofs.Common.{◌-◌, length}
+use Rattle.pp_language.specs.Statements.{body_parts, is_body_item}
+use Rattle.pp_parse.specs.Layouts.{IsBodyEntry}
+use Rattle.pp_parse.proofs.ItemLists.{ItemsTo}
+use Rattle.pp_parse.proofs.statement.body_items.Given as goal
+
+abbrev pub ghost-body_item_at : goal.ghost-body_item_at
+ghost-body_item_at g a = g.qs
+
+abbrev pub ghost-has_mark : goal.ghost-has_mark
+ghost-has_mark g a = g.qs
+
+abbrev pub invariant-loop-entries : goal.invariant-loop-entries
+invariant-loop-entries g l = ItemsTo body_parts is_body_item IsBodyEntry g.qs l.at l.place l.entries.items
+
+abbrev pub decreases-loop-entries : goal.decreases-loop-entries
+decreases-loop-entries g l = length l.parts - l.place

@@ -1,0 +1,12 @@
+pub mod Words
+pub mod Terms
+pub mod Parts
+pub mod Leaves
+pub mod Reading
+pub mod Seen
+pub mod Fronts
+pub mod Found
+pub mod Sets
+pub mod Items
+pub mod Layouts
+pub mod Parsed

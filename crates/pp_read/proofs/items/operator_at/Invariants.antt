@@ -1,4 +1,0 @@
-use Rattle.pp_read.proofs.items.operator_at.Given as goal
-
-abbrev pub ghost-mark_at : goal.ghost-mark_at
-ghost-mark_at g a = g.qs

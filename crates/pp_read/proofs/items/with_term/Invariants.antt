@@ -1,4 +1,0 @@
-use Rattle.pp_read.proofs.items.with_term.Given as goal
-
-abbrev pub ghost-has_term : goal.ghost-has_term
-ghost-has_term g a = g.qs

@@ -1,4 +1,0 @@
-use Rattle.pp_read.proofs.statement.is_head.Given as goal
-
-abbrev pub ghost-term_at : goal.ghost-term_at
-ghost-term_at g a = g.qs

@@ -1,5 +1,0 @@
-use Rattle.pp_read.proofs.SentenceParts.{parts_in}
-use Rattle.pp_read.proofs.statement.layout_of.Given as goal
-
-abbrev pub ghost-clause_or_query : goal.ghost-clause_or_query
-ghost-clause_or_query a = parts_in a.text.now a.tokens.now
