@@ -1,7 +1,7 @@
 -- How many variables items have, how large they are, and that a variable that is eliminated is gone.
 use Rattle.std.proofs.Common.{◌≡◌, ℕ, suc, ◌+◌, ◌<◌, ◌≤◌, true, false, Bool, List, [], ◌∷◌, ◌++◌, map, length, refl, ap, subst, ◌⊎◌, inl, inr, arith}
 use Rattle.std.specs.Prelude.{cond}
-use Rattle.pp_algebra.specs.Terms.{Tree, int, node, variable, Trees, none, more, put, put_all, variables, variables_all, count}
+use Rattle.pp_algebra.specs.Terms.{Tree, int, node, variable, Trees, none, more, put, put_all, variables, variables_all, count, size, size_all}
 use Rattle.pp_algebra.specs.Rows.{Domains}
 use Rattle.pp_algebra.specs.Covers.{IsIn}
 use Rattle.pp_algebra.specs.Solve.{Item, equation, membership, AllHold}
@@ -34,16 +34,6 @@ few-among k vs ws h f = record { all = f.all; few = f.few; among = λ v i. f.amo
 
 pub few-fewer : {V : Type 0} (j k : ℕ) (vs : List V) → j ≤ k → Few j vs → Few k vs
 few-fewer j k vs h f = record { all = f.all; few = omega (arith, f.few); among = f.among }
-
-abbrev mutual
-  pub size : {V : Type 0} → Tree V → ℕ
-  size (int n) = 1
-  size (node f ts) = suc (size_all ts)
-  size (variable v) = 1
-
-  pub size_all : {V : Type 0} → Trees V → ℕ
-  size_all none = 0
-  size_all (more t ts) = size t + size_all ts
 
 abbrev pub size_of : {V : Type 0} → List (Item V) → ℕ
 size_of [] = 0

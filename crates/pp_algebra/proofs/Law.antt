@@ -2,9 +2,8 @@
 use Rattle.std.proofs.Common.{◌≡◌, ℕ, suc, ◌<◌, List, [], ◌∷◌, map, length, get_or, refl, ap, sym, ◌∙◌, subst, inl, inr, arith}
 use Rattle.std.proofs.Math.ListN.{length-map}
 use Rattle.pp_algebra.specs.Terms.{count}
-use Rattle.pp_algebra.specs.Covers.{IsIn, Covers}
+use Rattle.pp_algebra.specs.Covers.{IsIn, Covers, RowCovers}
 use Rattle.pp_algebra.specs.Rows.{Row, IsCanonical, pattern_of}
-use Rattle.pp_algebra.specs.Laws.{RowCovers}
 use Rattle.pp_algebra.specs.Least.{least}
 use Rattle.pp_algebra.specs.Canon.{same_list}
 use Rattle.pp_algebra.specs.Least.{least_row}

@@ -1,4 +1,5 @@
 pub mod Put
+pub mod Joined
 pub mod Order
 pub mod Bools
 pub mod LeastIsLeast

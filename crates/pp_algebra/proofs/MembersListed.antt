@@ -101,7 +101,7 @@ in_integers (suc n) low k l m = by_lt_z low k (λ g. inr (in_integers n (low +�
 -- the members are what ascends and stands exactly where the set contains it
 pub members_are : (d : Domain) (ns : List ℤ) → AreIntegers ns → ((n : ℤ) → IsInteger n → (set.contains d n ≡ true) ↔ IsIn n ns) → members d ≡ ns
 unfolding all_integers
-members_are d ns a h = filter_is (set.contains d) 2000000000001 (negsuc 999999999999) (pos 1000000000001) ns (omega (arith, ints)) a (λ k l m. h k (l, omega (arith, ints)))
+members_are d ns a h = filter_is (set.contains d) 2000000000001 (negsuc 999999999999) (pos 1000000000001) ns (omega (arith, ints)) a (λ k l m. h k (record { at_least = l; at_most = omega (arith, ints) }))
 
 pub members-integers : (d : Domain) → AreIntegers (members d)
 unfolding all_integers
@@ -112,11 +112,11 @@ members-ascend d = ascending_pairs _ _ (members d) (members-integers d)
 
 in_all : (n : ℤ) → IsInteger n → IsIn n all_integers
 unfolding all_integers
-in_all n h = in_integers 2000000000001 (negsuc 999999999999) n h.0 (omega (arith, ints, h.1))
+in_all n h = in_integers 2000000000001 (negsuc 999999999999) n h.at_least (omega (arith, ints, h.at_most))
 
 pub members-contained : (d : Domain) (n : ℤ) → IsIn n (members d) ↔ (IsInteger n × (set.contains d n ≡ true))
 members-contained d n = (
-  (λ i. let r = ascending_range (negsuc 999999999999) (pos 1000000000001) n (members d) (members-integers d) i in ((r.0, omega (arith, ints, r.1)), passes (set.contains d) n all_integers i)),
+  (λ i. let r = ascending_range (negsuc 999999999999) (pos 1000000000001) n (members d) (members-integers d) i in (record { at_least = r.0; at_most = omega (arith, ints, r.1) }, passes (set.contains d) n all_integers i)),
   (λ h. stays (set.contains d) n all_integers h.1 (in_all n h.0)),
 )
 

@@ -1,9 +1,8 @@
 -- The least generalisation depends on which rows there are alone.
 use Rattle.std.proofs.Common.{◌≡◌, ℕ, List, [], ◌∷◌, ◌++◌, refl, ap, sym, ◌∙◌, subst, inl, inr}
 use Rattle.pp_algebra.specs.Terms.{count}
-use Rattle.pp_algebra.specs.Covers.{IsIn}
+use Rattle.pp_algebra.specs.Covers.{IsIn, RowCovers}
 use Rattle.pp_algebra.specs.Rows.{Row, IsCanonical, pattern_of}
-use Rattle.pp_algebra.specs.Laws.{RowCovers}
 use Rattle.pp_algebra.specs.Least.{least_row}
 use Rattle.pp_algebra.specs.Joins.{one, two, AreWideAs, SameRows, AllOf}
 use Rattle.pp_algebra.proofs.Order.{covers_itself, covers_through, IsIn-left, IsIn-right}

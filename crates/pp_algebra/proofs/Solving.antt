@@ -3,9 +3,9 @@ use Rattle.std.proofs.Common.{ℕ, zero, suc, ◌<◌, ◌≤◌, List, [], ◌�
 use Rattle.std.specs.Prelude.{◌↔◌}
 use Rattle.pp_algebra.specs.Terms.{Tree, put, put_all, variables_all}
 use Rattle.pp_algebra.specs.Rows.{Domains, Pattern, Row, domain_at, IsRow}
-use Rattle.pp_algebra.specs.Covers.{MayGo, IsIn}
-use Rattle.pp_algebra.specs.Solve.{Item, equation, membership, Holds, AllHold, Meets, IsSolved, HasNone}
-use Rattle.pp_algebra.specs.Laws.{RowCovers, SameItems, SolvedForSome, NoneForAny, SolvedInStages}
+use Rattle.pp_algebra.specs.Covers.{MayGo, IsIn, RowCovers}
+use Rattle.pp_algebra.specs.Solve.{Item, equation, membership, Holds, AllHold, Meets, IsSolved, HasNone, SameItems}
+use Rattle.pp_algebra.specs.Laws.{SolvedForSome, NoneForAny, SolvedInStages}
 use Rattle.pp_algebra.proofs.Put.{put-put, put_all-put_all}
 use Rattle.pp_algebra.proofs.Member.{members}
 use Rattle.pp_algebra.proofs.Antisym.{occurs}

@@ -2,7 +2,7 @@
 use Rattle.std.specs.Prelude.{◌≡◌, ℤ, ◌⊎◌, true, List, [], ◌∷◌, Option, Some, None}
 use Rattle.std.specs.FinSet as set
 use Rattle.pp_algebra.specs.Terms.{Tree, int, node, variable, put_all, variables_all}
-use Rattle.pp_algebra.specs.Rows.{Domain, Domains, Pattern}
+use Rattle.pp_algebra.specs.Rows.{Domain, Domains, Pattern, Row, pattern_of}
 
 -- a finite domain that lies inside d
 abbrev pub IsWithin : Domain → Option Domain → Type 0
@@ -26,3 +26,7 @@ pub record Covers {V W : Type 0} (r : Pattern V) (q : Pattern W) : Type 0 where
   pub by : V → Tree W
   pub columns : put_all by r.columns ≡ q.columns
   pub domains : (v : V) → IsIn v (variables_all r.columns) → MayGo q.domains (r.domains v) (by v)
+
+-- of rows
+abbrev pub RowCovers : Row → Row → Type 0
+RowCovers r q = Covers (pattern_of r) (pattern_of q)

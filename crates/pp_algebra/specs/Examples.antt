@@ -7,7 +7,7 @@ use Rattle.pp_algebra.specs.Canon.{canon}
 use Rattle.pp_algebra.specs.Least.{least_row}
 use Rattle.pp_algebra.specs.Solve.{equation, membership, IsSolved, HasNone}
 use Rattle.pp_algebra.specs.Stages.{pattern}
-use Rattle.pp_algebra.specs.Laws.{RowCovers}
+use Rattle.pp_algebra.specs.Covers.{RowCovers}
 
 abbrev pub number : {V : Type 0} → ℕ → Tree V
 number n = int (pos n)

@@ -4,16 +4,13 @@ use Rattle.std.specs.FinSet as set
 use Rattle.std.proofs.Common.{inl, inr}
 use Rattle.pp_algebra.specs.Terms.{Trees, count, put_all, variables_all}
 use Rattle.pp_algebra.specs.Rows.{Domains, Pattern, Row, domain_at, pattern_of, Domain, IsCanonical, IsRow, AreWide}
-use Rattle.pp_algebra.specs.Covers.{Covers, IsIn}
+use Rattle.pp_algebra.specs.Covers.{RowCovers, IsIn}
 use Rattle.pp_algebra.specs.Members.{IsInteger, members}
 use Rattle.pp_algebra.specs.Canon.{canon, same_row}
 use Rattle.pp_algebra.specs.Least.{least_row}
 use Rattle.pp_algebra.specs.Joins.{Joins, rows_of, joined, AllOf, AreWideAs, SameRows}
-use Rattle.pp_algebra.specs.Solve.{Item, put_item, Holds, Meets, IsSolved, HasNone, Solvable}
+use Rattle.pp_algebra.specs.Solve.{Item, put_item, Holds, Meets, IsSolved, HasNone, Solvable, SameItems}
 use Rattle.pp_algebra.specs.Stages.{pattern, with_fresh, kept, moved, ColumnsSpeakOf, ItemsSpeakOf}
-
-abbrev pub RowCovers : Row → Row → Type 0
-RowCovers r q = Covers (pattern_of r) (pattern_of q)
 
 abbrev pub CoversItself : Type 0
 CoversItself = (r : Row) → RowCovers r r
@@ -78,10 +75,6 @@ SolvedOnce V = (p : Pattern V) (items : List (Item V)) (r q : Row) → IsSolved 
 -- a row meets the items exactly where the most general row covers it
 abbrev pub SolvedCovers : Type 0 → Type 0
 SolvedCovers V = (p : Pattern V) (items : List (Item V)) (r : Row) → IsSolved p items r → (q : Row) → IsRow q → Meets p items q ↔ RowCovers r q
-
--- the same items stand in both lists, in whatever order and however often
-abbrev pub SameItems : {V : Type 0} → List (Item V) → List (Item V) → Type 0
-SameItems {V} items others = ((i : Item V) → IsIn i items → IsIn i others) × ((i : Item V) → IsIn i others → IsIn i items)
 
 abbrev pub SolvedInAnyOrder : Type 0 → Type 0
 SolvedInAnyOrder V = (p : Pattern V) (items others : List (Item V)) → SameItems items others → ((r : Row) → IsSolved p items r ↔ IsSolved p others r) × (HasNone p items ↔ HasNone p others)

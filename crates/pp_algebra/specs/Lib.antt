@@ -1,5 +1,7 @@
 pub mod Terms
 pub mod Rows
+pub mod Numbered
+pub mod Givens
 pub mod Covers
 pub mod Members
 pub mod Canon
@@ -9,3 +11,4 @@ pub mod Solve
 pub mod Stages
 pub mod Laws
 pub mod Examples
+pub mod Texts

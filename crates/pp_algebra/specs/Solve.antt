@@ -2,7 +2,7 @@
 use Rattle.std.specs.Prelude.{◌≡◌, ℕ, List, [], ◌∷◌, Some, ◌⊎◌}
 use Rattle.pp_algebra.specs.Terms.{Tree, Trees, none, more, put, put_all}
 use Rattle.pp_algebra.specs.Rows.{Domain, Domains, Pattern, Row, domain_at, pattern_of, IsRow}
-use Rattle.pp_algebra.specs.Covers.{MayGo, Covers}
+use Rattle.pp_algebra.specs.Covers.{MayGo, Covers, IsIn}
 
 -- two terms are to be equal, or a term is to be an integer in a set
 pub data Item (V : Type 0) : Type 0 where
@@ -46,3 +46,7 @@ HasNone p items = (q : Row) → IsRow q → Meets p items q → ⊥
 -- solving ends, with the most general row, or nothing meets the items
 abbrev pub Solvable : {V : Type 0} → Pattern V → List (Item V) → Type 0
 Solvable p items = ((r : Row) × IsSolved p items r) ⊎ HasNone p items
+
+-- the same items stand in both lists, in whatever order and however often
+abbrev pub SameItems : {V : Type 0} → List (Item V) → List (Item V) → Type 0
+SameItems {V} items others = ((i : Item V) → IsIn i items → IsIn i others) × ((i : Item V) → IsIn i others → IsIn i items)

@@ -1,5 +1,5 @@
 -- Terms: finite trees over any kind of variables. An atom is a name without arguments.
-use Rattle.std.specs.Prelude.{ℕ, ℤ, suc, List, [], ◌∷◌, ◌++◌}
+use Rattle.std.specs.Prelude.{ℕ, ℤ, suc, ◌+◌, List, [], ◌∷◌, ◌++◌}
 
 mutual
   pub data Tree (V : Type 0) : Type 0 where
@@ -37,3 +37,19 @@ abbrev mutual
   pub variables_all : {V : Type 0} → Trees V → List V
   variables_all none = []
   variables_all (more t ts) = variables t ++ variables_all ts
+
+-- the terms of both lists, one list after the other
+abbrev pub join : {V : Type 0} → Trees V → Trees V → Trees V
+join none us = us
+join (more t ts) us = more t (join ts us)
+
+-- how many names, integers and variables stand in a term
+abbrev mutual
+  pub size : {V : Type 0} → Tree V → ℕ
+  size (int n) = 1
+  size (node f ts) = suc (size_all ts)
+  size (variable v) = 1
+
+  pub size_all : {V : Type 0} → Trees V → ℕ
+  size_all none = 0
+  size_all (more t ts) = size t + size_all ts

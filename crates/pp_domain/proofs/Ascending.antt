@@ -7,7 +7,8 @@ use Rattle.std.specs.Ordering.{int_cmp, int_eq}
 use Rattle.std.proofs.lemmas.Int.{ints}
 use Rattle.std.proofs.lemmas.List.{at_drop_more, at_drop_all}
 use Rattle.std.proofs.lemmas.Bool.Decides.{Decides-int_eq}
-use Rattle.pp_domain.specs.Intervals.{IsApart, IsDomain, run, count, integers}
+use Rattle.pp_domain.specs.Intervals.{IsApart, IsDomain, count, integers}
+use Rattle.pp_algebra.specs.Members.{integers_from}
 use Rattle.pp_domain.specs.Sets.{set_of}
 use Rattle.pp_domain.proofs.Members.{count_is, one_of}
 
@@ -22,17 +23,17 @@ ascending_down : (low below : ℤ) (xs : List ℤ) → below ≤ℤ low → IsAs
 ascending_down low below [] h a = tt
 ascending_down low below (x ∷ xs) h a = (omega (arith, ints, a.0), a.1)
 
-run-ascending : (low : ℤ) (n : ℕ) (end : ℤ) (ys : List ℤ) → (low +ℤ pos n) ≤ℤ (end +ℤ pos 1) → IsAscending end ys → IsAscending (low -ℤ pos 1) (run low n ++ ys)
-unfolding run
+run-ascending : (low : ℤ) (n : ℕ) (end : ℤ) (ys : List ℤ) → (low +ℤ pos n) ≤ℤ (end +ℤ pos 1) → IsAscending end ys → IsAscending (low -ℤ pos 1) (integers_from low n ++ ys)
+unfolding integers_from
 run-ascending low zero end ys h a = ascending_down end (low -ℤ pos 1) ys (omega (arith, ints)) a
 run-ascending low (suc n) end ys h a =
     let r = run-ascending (low +ℤ pos 1) n end ys (omega (arith, ints)) a in
     let e : ((low +ℤ pos 1) -ℤ pos 1) ≡ low = omega (arith, ints) in
-    let F : ℤ → Type 0 = λ z. IsAscending z (run (low +ℤ pos 1) n ++ ys) in
+    let F : ℤ → Type 0 = λ z. IsAscending z (integers_from (low +ℤ pos 1) n ++ ys) in
     (omega (arith, ints), subst F e r)
 
-length-run : (low : ℤ) (n : ℕ) → length (run low n) ≡ n
-unfolding run
+length-run : (low : ℤ) (n : ℕ) → length (integers_from low n) ≡ n
+unfolding integers_from
 length-run low zero = refl
 length-run low (suc n) = ap suc (length-run (low +ℤ pos 1) n)
 
@@ -81,20 +82,20 @@ integers_room [] low high a = omega (arith, ints)
 integers_room (p ∷ ps) low high a =
     let r = integers_room ps (p.1 +ℤ pos 1) high a.2 in
     let e = count_is p.0 p.1 a.1 in
-    let l = length-append (run p.0 (count p.0 p.1)) (integers ps) in
+    let l = length-append (integers_from p.0 (count p.0 p.1)) (integers ps) in
     let n = length-run p.0 (count p.0 p.1) in
     omega (arith, ints, r, e, l, n)
 
 pub integers_few : (ps : List (ℤ × ℤ)) → IsDomain ps → length (integers ps) ≤ 2_000_000_000_002
 integers_few ps d = let r = integers_room ps _ _ d.apart in omega (arith, ints, r)
 
-pub integers_at : (ps : List (ℤ × ℤ)) (n : ℕ) (d : ℤ × ℤ) → n < length ps → integers (drop n ps) ≡ run (get_or ps n d).0 (count (get_or ps n d).0 (get_or ps n d).1) ++ integers (drop (n + 1) ps)
+pub integers_at : (ps : List (ℤ × ℤ)) (n : ℕ) (d : ℤ × ℤ) → n < length ps → integers (drop n ps) ≡ integers_from (get_or ps n d).0 (count (get_or ps n d).0 (get_or ps n d).1) ++ integers (drop (n + 1) ps)
 unfolding integers
 integers_at ps n d h = at_drop_more integers ps n d h
 
 pub length_at : (ps : List (ℤ × ℤ)) (n : ℕ) (d : ℤ × ℤ) → n < length ps → length (integers (drop n ps)) ≡ count (get_or ps n d).0 (get_or ps n d).1 + length (integers (drop (n + 1) ps))
 length_at ps n d h =
-    ap length (integers_at ps n d h) ∙ length-append (run (get_or ps n d).0 (count (get_or ps n d).0 (get_or ps n d).1)) (integers (drop (n + 1) ps))
+    ap length (integers_at ps n d h) ∙ length-append (integers_from (get_or ps n d).0 (count (get_or ps n d).0 (get_or ps n d).1)) (integers (drop (n + 1) ps))
     ∙ ap (λ m. m + length (integers (drop (n + 1) ps))) (length-run (get_or ps n d).0 _)
 
 pub integers_past : (ps : List (ℤ × ℤ)) (n : ℕ) → length ps ≤ n → integers (drop n ps) ≡ []
@@ -103,14 +104,14 @@ integers_past ps n h = at_drop_all integers ps n h
 
 -- ---- the integer at a place
 
-pub get-run : (low : ℤ) (n k : ℕ) (ys : List ℤ) → k < n → slice_get (run low n ++ ys) k ≡ Some (low +ℤ pos k)
-unfolding run
+pub get-run : (low : ℤ) (n k : ℕ) (ys : List ℤ) → k < n → slice_get (integers_from low n ++ ys) k ≡ Some (low +ℤ pos k)
+unfolding integers_from
 get-run low zero k ys h = absurd (omega arith)
 get-run low (suc n) zero ys h = ap Some (omega (arith, ints))
 get-run low (suc n) (suc k) ys h = get-run (low +ℤ pos 1) n k ys (omega arith) ∙ ap Some (omega (arith, ints))
 
-pub get_past-run : (low : ℤ) (n k : ℕ) (ys : List ℤ) → n ≤ k → slice_get (run low n ++ ys) k ≡ slice_get ys (k - n)
-unfolding run
+pub get_past-run : (low : ℤ) (n k : ℕ) (ys : List ℤ) → n ≤ k → slice_get (integers_from low n ++ ys) k ≡ slice_get ys (k - n)
+unfolding integers_from
 get_past-run low zero k ys h = ap (slice_get ys) (omega arith)
 get_past-run low (suc n) zero ys h = absurd (omega arith)
 get_past-run low (suc n) (suc k) ys h = get_past-run (low +ℤ pos 1) n k ys (omega arith) ∙ ap (slice_get ys) (omega arith)
@@ -125,8 +126,8 @@ get_later ps n k d h more = ap (λ xs. slice_get xs k) (integers_at ps n d h) �
 pub get_past_all : (ps : List (ℤ × ℤ)) (n k : ℕ) → length ps ≤ n → slice_get (integers (drop n ps)) k ≡ None
 get_past_all ps n k h = ap (λ xs. slice_get xs k) (integers_past ps n h)
 
-one_run : (v : ℤ) (n : ℕ) → n ≡ 1 → run v n ++ [] ≡ v ∷ []
-unfolding run
+one_run : (v : ℤ) (n : ℕ) → n ≡ 1 → integers_from v n ++ [] ≡ v ∷ []
+unfolding integers_from
 one_run v zero e = absurd (omega arith)
 one_run v (suc zero) e = refl
 one_run v (suc (suc n)) e = absurd (omega arith)

@@ -7,7 +7,8 @@ use Rattle.std.proofs.lemmas.Int.{ints, by_lt_z}
 use Rattle.std.proofs.lemmas.Bool.Decides.{same_from_decides, Decides-like}
 use Rattle.std.specs.Bool.{Decides}
 use Rattle.pp_domain.specs.Intervals.{Lies, IsApart, IsDomain}
-use Rattle.pp_domain.specs.Sets.{Integers, set_of}
+use Rattle.pp_domain.specs.Sets.{set_of}
+use Rattle.pp_algebra.specs.Rows.{Domain}
 use Rattle.pp_domain.proofs.Members.{contains_lies}
 
 -- each integer of the first lies in the second
@@ -82,11 +83,11 @@ same_sets ps qs d e h k = set.same_set int_cmp_total set.int_cmp-IsAntisymmetric
     (λ v. same_from_decides _ _ (contains_lies ps v d) (Decides-like _ (k v) (h v) (contains_lies qs v e)))
 
 -- a set whose members are the integers that lie in a domain is that domain's
-pub set_is : (ps : List (ℤ × ℤ)) (s : Integers) → IsDomain ps → ((v : ℤ) → Decides (set.contains s v) (Lies ps v)) → set_of ps ≡ s
+pub set_is : (ps : List (ℤ × ℤ)) (s : Domain) → IsDomain ps → ((v : ℤ) → Decides (set.contains s v) (Lies ps v)) → set_of ps ≡ s
 set_is ps s d h = set.same_set int_cmp_total set.int_cmp-IsAntisymmetric _ _ (λ v. same_from_decides _ _ (contains_lies ps v d) (h v))
 
 -- a set with no member is the empty one
-pub empty_is : (s : Integers) → ((v : ℤ) → set.contains s v ≡ true → ⊥) → s ≡ set.empty
+pub empty_is : (s : Domain) → ((v : ℤ) → set.contains s v ≡ true → ⊥) → s ≡ set.empty
 empty_is s h = set.same_set int_cmp_total set.int_cmp-IsAntisymmetric _ _ (λ v. not_there _ (h v) ∙ sym (set.contains-empty int_cmp v))
   where
     not_there : (b : Bool) → (b ≡ true → ⊥) → b ≡ false

@@ -8,7 +8,8 @@ use Rattle.std.proofs.lemmas.Bool.Decides.{Decides-int_eq, Decides-or, Decides-l
 use Rattle.std.specs.FinSet as set
 use Rattle.std.specs.Cmp.{int_cmp_total}
 use Rattle.std.proofs.lemmas.Int.{ints}
-use Rattle.pp_domain.specs.Intervals.{run, natural, count, integers, Lies, IsApart, IsDomain}
+use Rattle.pp_domain.specs.Intervals.{natural, count, integers, Lies, IsApart, IsDomain}
+use Rattle.pp_algebra.specs.Members.{integers_from}
 use Rattle.pp_domain.specs.Sets.{set_of}
 
 natural_is : (z : ℤ) → pos 0 ≤ℤ z → pos (natural z) ≡ z
@@ -51,12 +52,12 @@ later_or_first low n v h = elim (cases_int v low) [
 no_room : (low v : ℤ) → (low ≤ℤ v) × (v <ℤ (low +ℤ pos 0)) → ⊥
 no_room low v h = omega (arith, ints)
 
-pub one_of-run : (v low : ℤ) (n : ℕ) → Decides (one_of v (run low n)) ((low ≤ℤ v) × (v <ℤ (low +ℤ pos n)))
-unfolding run
+pub one_of-run : (v low : ℤ) (n : ℕ) → Decides (one_of v (integers_from low n)) ((low ≤ℤ v) × (v <ℤ (low +ℤ pos n)))
+unfolding integers_from
 one_of-run v low zero = (λ h. absurd (cc), λ h. absurd (no_room low v h))
 one_of-run v low (suc n) =
     Decides-like _ (first_or_later low n v) (later_or_first low n v)
-    (Decides-or (int_eq v low) (one_of v (run (low +ℤ pos 1) n)) (Decides-int_eq v low) (one_of-run v (low +ℤ pos 1) n))
+    (Decides-or (int_eq v low) (one_of v (integers_from (low +ℤ pos 1) n)) (Decides-int_eq v low) (one_of-run v (low +ℤ pos 1) n))
 
 in_first : (p : ℤ × ℤ) (v : ℤ) → p.0 ≤ℤ p.1 → (p.0 ≤ℤ v) × (v <ℤ (p.0 +ℤ pos (count p.0 p.1))) → (p.0 ≤ℤ v) × (v ≤ℤ p.1)
 in_first p v o h = let e = count_is p.0 p.1 o in (h.0, omega (arith, ints, e))
@@ -68,8 +69,8 @@ pub one_of-integers : (ps : List (ℤ × ℤ)) (v low high : ℤ) → IsApart lo
 unfolding integers
 one_of-integers [] v low high a = (λ h. absurd (cc), λ h. absurd h)
 one_of-integers (p ∷ ps) v low high a =
-    Decides-at _ _ (one_of-append v (run p.0 (count p.0 p.1)) (integers ps))
-    (Decides-or (one_of v (run p.0 (count p.0 p.1))) (one_of v (integers ps))
+    Decides-at _ _ (one_of-append v (integers_from p.0 (count p.0 p.1)) (integers ps))
+    (Decides-or (one_of v (integers_from p.0 (count p.0 p.1))) (one_of v (integers ps))
     (Decides-like _ (in_first p v a.1) (first_in p v a.1) (one_of-run v p.0 (count p.0 p.1)))
     (one_of-integers ps v (p.1 +ℤ pos 1) high a.2))
 

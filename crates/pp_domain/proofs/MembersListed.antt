@@ -1,9 +1,9 @@
 -- The members of a domain's set are the integers of its intervals, in the same order.
 use Rattle.std.proofs.Common.{◌≡◌, ℕ, ℤ, zero, suc, pos, ◌+ℤ◌, ◌≤ℤ◌, List, [], ◌∷◌, ◌++◌, arith}
 use Rattle.std.proofs.lemmas.Int.{ints}
-use Rattle.pp_algebra.specs.Members.{members}
+use Rattle.pp_algebra.specs.Members.{members, integers_from}
 use Rattle.pp_algebra.proofs.MembersListed.{IsAscending, AreIntegers, members-from_list}
-use Rattle.pp_domain.specs.Intervals.{IsApart, IsDomain, run, count, integers}
+use Rattle.pp_domain.specs.Intervals.{IsApart, IsDomain, count, integers}
 use Rattle.pp_domain.specs.Sets.{set_of}
 use Rattle.pp_domain.proofs.Members.{count_is}
 use Rattle.pp_domain.proofs.Ascending.{integers_room}
@@ -12,8 +12,8 @@ down : (low end high : ℤ) (ns : List ℤ) → low ≤ℤ end → IsAscending e
 down low end high [] l a = tt
 down low end high (n ∷ ns) l a = (omega (arith, ints, a.0), a.1, a.2)
 
-run-listed : (low : ℤ) (n : ℕ) (end high : ℤ) (ns : List ℤ) → (low +ℤ pos n) ≤ℤ end → end ≤ℤ high → IsAscending end ns high → IsAscending low (run low n ++ ns) high
-unfolding run
+run-listed : (low : ℤ) (n : ℕ) (end high : ℤ) (ns : List ℤ) → (low +ℤ pos n) ≤ℤ end → end ≤ℤ high → IsAscending end ns high → IsAscending low (integers_from low n ++ ns) high
+unfolding integers_from
 run-listed low zero end high ns l h a = down low end high ns (omega (arith, ints)) a
 run-listed low (suc n) end high ns l h a = (omega (arith, ints), omega (arith, ints), run-listed (low +ℤ pos 1) n end high ns (omega (arith, ints)) h a)
 

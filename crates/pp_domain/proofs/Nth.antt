@@ -8,7 +8,8 @@ use Rattle.std.specs.Bool.{Decides}
 use Rattle.std.proofs.lemmas.Int.{ints}
 use Rattle.std.proofs.lemmas.Bool.Decides.{same_from_decides, Decides-like, Decides-at, Decides-and, Decides-or, Decides-int_eq}
 use Rattle.pp_domain.specs.Intervals.{IsDomain, integers}
-use Rattle.pp_domain.specs.Sets.{Integers, set_of, IsNth}
+use Rattle.pp_domain.specs.Sets.{set_of, IsNth}
+use Rattle.pp_algebra.specs.Rows.{Domain}
 use Rattle.pp_domain.proofs.Members.{one_of}
 use Rattle.pp_domain.proofs.Ascending.{IsAscending, integers-ascending, one_of_above, len_ascending, len_is}
 use Rattle.pp_domain.proofs.Words.{Decides-int_lt}
@@ -69,7 +70,7 @@ get_none [] k = (λ h. omega arith, λ h. refl)
 get_none (x ∷ xs) zero = (λ h. absurd (cc), λ h. absurd (omega arith))
 get_none (x ∷ xs) (suc k) = let r = get_none xs k in (λ h. let l = r.0 h in omega arith, λ h. r.1 (omega arith))
 
-smaller : Integers → ℤ → Integers
+smaller : Domain → ℤ → Domain
 smaller s v = set.retain s (λ n. int_lt n v)
 
 smaller_is : (low : ℤ) (xs : List ℤ) (k : ℕ) (v : ℤ) → IsAscending low xs → slice_get xs k ≡ Some v → smaller (set.from_list xs) v ≡ set.from_list (take k xs)

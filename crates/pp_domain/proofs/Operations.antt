@@ -6,15 +6,16 @@ use Rattle.std.specs.Cmp.{int_cmp_total}
 use Rattle.std.specs.Bool.{Decides}
 use Rattle.std.proofs.lemmas.Bool.Decides.{Decides-like, Decides-at, Decides-and, Decides-or, Decides-not, Decides-int_eq}
 use Rattle.pp_domain.specs.Intervals.{Lies, IsDomain}
-use Rattle.pp_domain.specs.Sets.{Integers, set_of, IsDomainOf, IsDomainOrNone}
+use Rattle.pp_domain.specs.Sets.{set_of, IsDomainOf, IsDomainOrNone}
+use Rattle.pp_algebra.specs.Rows.{Domain}
 use Rattle.pp_domain.proofs.Members.{contains_lies}
 use Rattle.pp_domain.proofs.Canonical.{set_is, empty_is}
 
 -- the members of s are the integers that lie in rs
-abbrev pub Holds : Integers → List (ℤ × ℤ) → Type 0
+abbrev pub Holds : Domain → List (ℤ × ℤ) → Type 0
 Holds s rs = (v : ℤ) → Decides (set.contains s v) (Lies rs v)
 
-domain_or_none : (s : Integers) (rs : List (ℤ × ℤ)) (r : Option (List (ℤ × ℤ))) → Holds s rs → MatchOption r (rs ≡ []) (λ d. IsDomain d × (d ≡ rs)) → IsDomainOrNone r s
+domain_or_none : (s : Domain) (rs : List (ℤ × ℤ)) (r : Option (List (ℤ × ℤ))) → Holds s rs → MatchOption r (rs ≡ []) (λ d. IsDomain d × (d ≡ rs)) → IsDomainOrNone r s
 domain_or_none s rs None h m = empty_is s (λ v k. subst (λ (xs : List (ℤ × ℤ)). Lies xs v) m ((h v).0 k))
 domain_or_none s rs (Some d) h m = (m.0, set_is d s m.0 (subst (Holds s) (sym m.1) h))
 

@@ -6,7 +6,8 @@ use Rattle.std.specs.List.{AllWithin}
 use Rattle.std.proofs.lemmas.Bool.Decides.{Decides-at, Decides-like}
 use Rattle.std.proofs.lemmas.Int.{ints}
 use Rattle.std.proofs.lemmas.List.{get_or_default}
-use Rattle.pp_domain.specs.Intervals.{Lies, IsApart, IsDomain, IsInteger, count}
+use Rattle.pp_domain.specs.Intervals.{Lies, IsApart, IsDomain, count}
+use Rattle.pp_algebra.specs.Members.{IsInteger}
 use Rattle.pp_domain.proofs.Canonical.{lies_above, lies_rest, apart_room}
 use Rattle.pp_domain.proofs.Words.{word_is, Decides-int_le}
 

@@ -5,7 +5,8 @@ use Rattle.std.specs.Int.{int_max, int_min}
 use Rattle.std.proofs.lemmas.Int.{ints, clamps, by_lt_z}
 use Rattle.std.proofs.lemmas.List.{drop_more, drop_all}
 use Rattle.std.proofs.lemmas.Bool.{cases_lt}
-use Rattle.pp_domain.specs.Intervals.{Lies, IsApart, IsApartInside, IsDomain, IsInteger, lower_limit, upper_limit}
+use Rattle.pp_domain.specs.Intervals.{Lies, IsApart, IsApartInside, IsDomain, lower_limit, upper_limit}
+use Rattle.pp_algebra.specs.Members.{IsInteger}
 use Rattle.pp_domain.specs.Merging.{IsNext}
 use Rattle.pp_domain.proofs.Positions.{within, begin_word}
 use Rattle.pp_domain.proofs.Words.{word_is}

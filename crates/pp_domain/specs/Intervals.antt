@@ -1,10 +1,6 @@
 -- Which lists of intervals are finite domains, and which integers lie in them.
 use Rattle.std.specs.Prelude.{ℕ, ℤ, zero, suc, pos, negsuc, ◌+ℤ◌, ◌-ℤ◌, ◌≤ℤ◌, ◌<ℤ◌, ◌<◌, ◌⊎◌, List, [], ◌∷◌, ◌++◌, length}
-
--- the integers of the language: from -1,000,000,000,000 to 1,000,000,000,000
-pub record IsInteger (n : ℤ) : Type 0 where
-  pub at_least : negsuc 999_999_999_999 ≤ℤ n
-  pub at_most : n ≤ℤ pos 1_000_000_000_000
+use Rattle.pp_algebra.specs.Members.{integers_from}
 
 -- the integers of the language are those above the one and below the other
 abbrev pub lower_limit : ℤ
@@ -32,11 +28,6 @@ abbrev pub Lies : List (ℤ × ℤ) → ℤ → Type 0
 Lies [] v = ⊥
 Lies (p ∷ ps) v = ((p.0 ≤ℤ v) × (v ≤ℤ p.1)) ⊎ Lies ps v
 
--- n integers from `low` on
-unfoldable pub run : ℤ → ℕ → List ℤ
-run low zero = []
-run low (suc n) = low ∷ run (low +ℤ pos 1) n
-
 -- how many integers there are from `low` to `high`
 abbrev pub natural : ℤ → ℕ
 natural (pos n) = n
@@ -48,4 +39,4 @@ count low high = natural ((high -ℤ low) +ℤ pos 1)
 -- all integers of the intervals, ascending where the intervals are
 unfoldable pub integers : List (ℤ × ℤ) → List ℤ
 integers [] = []
-integers (p ∷ ps) = run p.0 (count p.0 p.1) ++ integers ps
+integers (p ∷ ps) = integers_from p.0 (count p.0 p.1) ++ integers ps

@@ -1,6 +1,7 @@
 //! How many integers lie in intervals, and which is at a place.
 ghost use Rattle.std.specs.Prelude.{◌≡◌, ◌≤ℤ◌, length, slice_get};
-ghost use Rattle.pp_domain.specs.Intervals.{IsDomain, IsInteger, count, integers};
+ghost use Rattle.pp_domain.specs.Intervals.{IsDomain, count, integers};
+ghost use Rattle.pp_algebra.specs.Members.{IsInteger};
 
 // How many integers there are from `low` to `high`.
 fn count_of(low: i64, high: i64) -> u64

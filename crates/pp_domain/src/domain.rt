@@ -4,7 +4,8 @@ ghost use Rattle.std.specs.FinSet as set;
 ghost use Rattle.std.specs.Ordering.{int_cmp};
 ghost use Rattle.std.specs.Cmp.{partial_equiv_from_equiv};
 ghost use Rattle.pp_domain.specs.Equality.{same_intervals, same_intervals_equiv};
-ghost use Rattle.pp_domain.specs.Intervals.{IsInteger, IsDomain, IsApartInside, integers};
+ghost use Rattle.pp_domain.specs.Intervals.{IsDomain, IsApartInside, integers};
+ghost use Rattle.pp_algebra.specs.Members.{IsInteger};
 ghost use Rattle.pp_domain.specs.Sets.{set_of, IsDomainOf, IsDomainOrNone, IsNth};
 
 use crate::counts::{nth_of, total};

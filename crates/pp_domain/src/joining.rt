@@ -1,7 +1,8 @@
 //! The integers that lie in one of two lists of intervals.
 ghost use Rattle.std.specs.Prelude.{◌≡◌, ◌++◌, ◌∷◌, [], ◌+ℤ◌, ◌≤ℤ◌, ◌<ℤ◌, ◌<◌, ◌≤◌, ◌⊎◌, ◌↔◌, ℤ, pos, length, true, false, IfOk};
 ghost use Rattle.std.specs.Int.{int_max};
-ghost use Rattle.pp_domain.specs.Intervals.{IsDomain, IsInteger, Lies};
+ghost use Rattle.pp_domain.specs.Intervals.{IsDomain, Lies};
+ghost use Rattle.pp_algebra.specs.Members.{IsInteger};
 ghost use Rattle.pp_domain.specs.Merging.{IsNext};
 
 use std::alloc::{AllocError, Global};

@@ -1,4 +1,4 @@
-ghost use Rattle.pp_domain.specs.Intervals.{IsInteger};
+ghost use Rattle.pp_algebra.specs.Members.{IsInteger};
 
 use super::*;
 use std::alloc::Global;

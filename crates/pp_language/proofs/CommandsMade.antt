@@ -6,7 +6,8 @@ use Rattle.std.proofs.lemmas.Bool.{eqb-true}
 use Rattle.pp_language.specs.declared.command.CommandKind.{CommandKind}
 use Rattle.pp_language.specs.declared.command.CommandKind.TheVariants.{Run, Alone, Make}
 use Rattle.pp_language.specs.declared.command.Command.{Command}
-use Rattle.pp_language.specs.Texts.{Text, same_text}
+use Rattle.pp_language.specs.Texts.{Text}
+use Rattle.pp_algebra.specs.Texts.{same_text}
 use Rattle.pp_language.specs.Kinds.{value_of}
 use Rattle.pp_language.specs.Commands.{Setting, worker_count, look_ahead, search_depth, turn_count, option_name, kind_name, is_number, Entry, sets, traces, counts, IsEntry, AreEntries, values, trace_count, numbers, numbers_of, is_allowed, AreWordsOf}
 use Rattle.pp_language.proofs.Forms.{same_text-true}

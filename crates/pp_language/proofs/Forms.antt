@@ -6,7 +6,8 @@ use Rattle.std.proofs.lemmas.Bool.{and_left, or_from, or_parts, both_ways, false
 use Rattle.std.proofs.lemmas.Slice.Eq.{bytes_eq-Decides}
 use Rattle.pp_language.specs.declared.token.Kind.{Kind}
 use Rattle.pp_language.specs.declared.token.Kind.TheVariants.{Integer, Atom, Quoted, Infers, Variable, Left, Right, OpenSquare, CloseSquare, Comma, Point, Range, Neck, Ask, Equals, InDomain, Less, AtMost, Equal, Differ}
-use Rattle.pp_language.specs.Texts.{Text, same_text, is_digit, is_lower, is_word}
+use Rattle.pp_language.specs.Texts.{Text, is_digit, is_lower, is_word}
+use Rattle.pp_algebra.specs.Texts.{same_text}
 use Rattle.pp_language.specs.Kinds.{are_digits, is_number_text, is_word_from, is_variable_text, is_quoted_rest, is_quoted, spells, has_form}
 use Rattle.pp_language.proofs.Bytes.{begins_variable, mark_bytes, begins_mark, Begins, digit_begins, lower_begins, variable_begins, minus_begins, quote_begins}
 

@@ -5,7 +5,8 @@ use Rattle.std.specs.List.{list_all}
 use Rattle.std.proofs.lemmas.Bool.{and_parts, or_cases, or_from, or_left, or_right, eqb-true, not-true, cond-true, cond-false}
 use Rattle.pp_language.specs.declared.token.Kind.{Kind}
 use Rattle.pp_language.specs.declared.token.Kind.TheVariants.{Integer, Atom, Quoted, Infers, Variable, Left, Right, OpenSquare, CloseSquare, Comma, Point, Range, Neck, Ask, Equals, InDomain, Less, AtMost, Equal, Differ}
-use Rattle.pp_language.specs.Texts.{Text, same_text, is_digit, is_lower, is_word}
+use Rattle.pp_language.specs.Texts.{Text, is_digit, is_lower, is_word}
+use Rattle.pp_algebra.specs.Texts.{same_text}
 use Rattle.pp_language.specs.Kinds.{are_digits, is_number_text, is_word_from, is_quoted_rest, spells}
 use Rattle.pp_language.proofs.Bytes.{begins_number, begins_variable, lower_begins, variable_begins}
 use Rattle.pp_language.proofs.Forms.{same_text-true}

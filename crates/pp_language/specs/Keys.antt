@@ -2,7 +2,8 @@
 use Rattle.std.specs.Prelude.{ℕ, Bool, true, false, not, nat_eq, cond, List, [], ◌∷◌, ◌++◌, codes, filter}
 use Rattle.pp_algebra.specs.Terms.{variable, Trees, put_all}
 use Rattle.pp_algebra.specs.Canon.{place}
-use Rattle.pp_language.specs.Texts.{Text, same_text}
+use Rattle.pp_language.specs.Texts.{Text}
+use Rattle.pp_algebra.specs.Texts.{same_text}
 
 -- a variable as a sentence writes it: by its name, or `_` at this place, which is new there
 pub data Key : Type 0 where

@@ -3,7 +3,8 @@ use Rattle.std.specs.Prelude.{ℕ, ◌+◌, ◌*◌, ◌-◌, Bool, true, false,
 use Rattle.std.specs.List.{list_all}
 use Rattle.pp_language.specs.declared.token.Kind.{Kind}
 use Rattle.pp_language.specs.declared.token.Kind.TheVariants.{Integer, Atom, Quoted, Infers, Variable, Left, Right, OpenSquare, CloseSquare, Comma, Point, Range, Neck, Ask, Equals, InDomain, Less, AtMost, Equal, Differ}
-use Rattle.pp_language.specs.Texts.{Text, same_text, is_between, is_digit, is_upper, is_lower, is_underscore, is_word}
+use Rattle.pp_language.specs.Texts.{Text, is_between, is_digit, is_upper, is_lower, is_underscore, is_word}
+use Rattle.pp_algebra.specs.Texts.{same_text}
 
 -- the number that digits write
 abbrev pub value_of : ℕ → Text → ℕ

@@ -12,7 +12,8 @@ use Rattle.pp_sld.specs.BuiltIns.{Test, less, at_most, equal, differ, plus, time
 use Rattle.pp_sld.specs.Goals.{Predicate, Shape, user, equals, member, test, Goal, Clause}
 use Rattle.pp_language.specs.declared.token.Kind.{Kind}
 use Rattle.pp_language.specs.declared.token.Kind.TheVariants.{Atom, Quoted, Variable, Less, AtMost, Equal}
-use Rattle.pp_language.specs.Texts.{Text, same_text}
+use Rattle.pp_language.specs.Texts.{Text}
+use Rattle.pp_algebra.specs.Texts.{same_text}
 use Rattle.pp_language.specs.Kinds.{value_of, unquoted}
 use Rattle.pp_language.specs.Programs.{QueryItem, solves, infers, Query, Written}
 use Rattle.pp_language.specs.Words.{Word, atom_of}

@@ -1,12 +1,8 @@
 -- Texts as lists of bytes: which bytes are letters, digits or white space, and parts of a text.
 use Rattle.std.specs.Prelude.{ℕ, ◌-◌, Bool, ◌&&◌, ◌||◌, nat_eq, nat_le, List, take, drop}
-use Rattle.std.specs.Cmp.Lexicographic.{pointwise}
 
 abbrev pub Text : Type 0
 Text = List ℕ
-
-abbrev pub same_text : Text → Text → Bool
-same_text = pointwise nat_eq
 
 abbrev pub is_between : ℕ → ℕ → ℕ → Bool
 is_between low high b = nat_le low b && nat_le b high

@@ -3,7 +3,8 @@ use Rattle.std.specs.Prelude.{ℕ, Bool, true, false, ◌&&◌, ◌||◌, nat_eq
 use Rattle.pp_language.specs.declared.token.Kind.{Kind}
 use Rattle.pp_language.specs.declared.token.Kind.TheVariants.{Atom, Quoted}
 use Rattle.pp_language.specs.declared.token.Token.{Token}
-use Rattle.pp_language.specs.Texts.{Text, same_text, part}
+use Rattle.pp_language.specs.Texts.{Text, part}
+use Rattle.pp_algebra.specs.Texts.{same_text}
 use Rattle.pp_language.specs.Kinds.{unquoted}
 
 -- a token by its kind and its text

@@ -5,7 +5,8 @@ use Rattle.std.specs.List.{list_all, prefix_len}
 use Rattle.std.proofs.lemmas.Bool.{and_from, both_ways, not_from_false}
 use Rattle.pp_language.specs.declared.token.Kind.{Kind}
 use Rattle.pp_language.specs.declared.token.Kind.TheVariants.{Atom, Quoted, Infers, Variable}
-use Rattle.pp_language.specs.Texts.{Text, same_text, is_lower, is_word}
+use Rattle.pp_language.specs.Texts.{Text, is_lower, is_word}
+use Rattle.pp_algebra.specs.Texts.{same_text}
 use Rattle.pp_language.specs.Kinds.{spells, has_form}
 use Rattle.pp_language.proofs.Bytes.{lower_is_word, variable_is_word}
 use Rattle.pp_language.proofs.Forms.{any_form, has_form-none, spells-any, form_of_lower, form_of_variable, form_of_quote}

@@ -1,7 +1,7 @@
 -- The join of two rows, column by column.
 use Rattle.std.proofs.Common.{◌≡◌, ℕ, suc, ℤ, List, [], ◌∷◌, ◌++◌, length, map, Option, refl, ap, sym, ◌∙◌, subst, append-nil, ◌+◌, ◌<◌, ◌≤◌, take, get_or, arith}
 use Rattle.std.proofs.lemmas.List.{take_more, take_all, length-take-le}
-use Rattle.pp_algebra.specs.Terms.{Tree, variable, Trees, none, more, count, put, put_all, variables, variables_all}
+use Rattle.pp_algebra.specs.Terms.{Tree, variable, Trees, none, more, count, put, put_all, variables, variables_all, join}
 use Rattle.pp_algebra.specs.Rows.{Row, domain_at, pattern_of, IsCanonical}
 use Rattle.pp_algebra.specs.Canon.{has, firsts, place, canon, same_list}
 use Rattle.pp_algebra.specs.Least.{least_tree, union_of, least_row}
@@ -9,9 +9,8 @@ use Rattle.pp_algebra.proofs.Antisym.{put_all-agree, covers_antisymmetric}
 use Rattle.pp_algebra.proofs.CanonLemmas.{same_list-IsSame, nat_eq-IsSame, has-all, canon-IsCanonical, canon-covers, covers-canon}
 use Rattle.pp_algebra.proofs.Law.{least_row-IsCanonical}
 use Rattle.std.specs.Prelude.{nat_eq}
-use Rattle.pp_term.specs.Columns.{trees_of, sets_of, row_by, pattern_by}
-use Rattle.pp_term.specs.Reading.{join}
-use Rattle.pp_term.proofs.Numbering.{firsts-append, place_stays}
+use Rattle.pp_row.specs.Columns.{trees_of, sets_of, row_by, pattern_by}
+use Rattle.pp_row.proofs.Numbering.{firsts-append, place_stays}
 use Rattle.pp_lgg.specs.Pairs.{placed}
 use Rattle.pp_lgg.proofs.Common.{common, common-join, variables_all-join}
 

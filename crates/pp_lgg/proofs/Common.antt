@@ -2,15 +2,14 @@
 use Rattle.std.proofs.Common.{◌≡◌, ℕ, ℤ, zero, suc, true, false, Bool, List, [], ◌∷◌, ◌++◌, refl, ap, ◌∙◌, sym, arith, append_assoc}
 use Rattle.std.specs.Prelude.{cond, ◌&&◌, nat_eq}
 use Rattle.std.specs.Ordering.{int_eq}
-use Rattle.pp_term.specs.declared.cell.Cell.{Cell}
-use Rattle.pp_term.specs.declared.cell.Cell.TheVariants.{Int, Var}
-use Rattle.pp_algebra.specs.Terms.{Tree, int, node, variable, Trees, none, more, count, put, put_all, variables, variables_all}
+use Rattle.pp_row.specs.declared.cell.Cell.{Cell}
+use Rattle.pp_row.specs.declared.cell.Cell.TheVariants.{Int, Var}
+use Rattle.pp_algebra.specs.Terms.{Tree, int, node, variable, Trees, none, more, count, put, put_all, variables, variables_all, join}
 use Rattle.pp_algebra.specs.Least.{rest, arguments, least_tree, least_trees}
 use Rattle.pp_algebra.proofs.Put.{count-put_all}
 use Rattle.pp_algebra.proofs.Bools.{int_same, int_is, nat_same, nat_is}
-use Rattle.pp_term.specs.Cells.{head_of, cells_of, cells_of_all}
-use Rattle.pp_term.specs.Reading.{join}
-use Rattle.pp_term.proofs.Next.{cell_of}
+use Rattle.pp_row.specs.Cells.{head_of, cells_of, cells_of_all}
+use Rattle.pp_row.proofs.Next.{cell_of}
 use Rattle.pp_lgg.specs.Pairs.{IsFixed}
 
 -- of two lists

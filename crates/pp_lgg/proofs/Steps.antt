@@ -2,16 +2,17 @@
 use Rattle.std.proofs.Common.{◌≡◌, ℕ, suc, ◌+◌, ◌-◌, ◌<◌, ◌≤◌, List, [], ◌∷◌, ◌++◌, length, take, drop, get_or, Some, None, Option, All, refl, ap, ◌∙◌, sym, arith, subst, append-nil}
 use Rattle.std.specs.Prelude.{MatchOption, IsSome}
 use Rattle.std.proofs.lemmas.List.Elements.{All-drop, All-take}
-use Rattle.pp_term.specs.declared.cell.Cell.{Cell}
-use Rattle.pp_term.specs.declared.cell.Cell.TheVariants.{Var}
+use Rattle.pp_row.specs.declared.cell.Cell.{Cell}
+use Rattle.pp_row.specs.declared.cell.Cell.TheVariants.{Var}
 use Rattle.pp_algebra.specs.Terms.{Tree, variable, Trees, none, more, count, put, variables}
 use Rattle.pp_algebra.specs.Canon.{firsts, place, same_list}
 use Rattle.pp_algebra.specs.Least.{first, rest, arguments, least_tree}
-use Rattle.pp_term.specs.Cells.{cells_of, arity_of, IsTerm, IsLegalCell}
-use Rattle.pp_term.specs.Codes.{stack-cells_of, tree_of-cells_of}
-use Rattle.pp_term.specs.Reading.{stack, all_of, tree_of, IsForest, IsOneTerm, from}
-use Rattle.pp_term.proofs.Next.{IsNext, next, count-join, count_from}
-use Rattle.pp_term.proofs.Piece.{piece, same_cells}
+use Rattle.pp_row.specs.Cells.{cells_of, arity_of, IsTerm, IsLegalCell}
+use Rattle.pp_row.specs.Codes.{stack-cells_of, tree_of-cells_of}
+use Rattle.pp_row.specs.Reading.{stack, all_of, tree_of, IsForest, IsOneTerm, from}
+use Rattle.pp_row.proofs.Next.{IsNext, next, count_from}
+use Rattle.pp_algebra.proofs.Joined.{count-join}
+use Rattle.pp_row.proofs.Piece.{piece, same_cells}
 use Rattle.pp_lgg.specs.Pairs.{IsFixed, placed}
 use Rattle.pp_lgg.proofs.Common.{common, Agrees, agrees, apart}
 use Rattle.pp_lgg.proofs.Walked.{Walked, starts, step_agree, step_apart, ends}

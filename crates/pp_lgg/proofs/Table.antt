@@ -9,12 +9,12 @@ use Rattle.std.proofs.lemmas.Slice.Eq.{slice_eq-Decides}
 use Rattle.pp_algebra.specs.Canon.{firsts, place, same_list}
 use Rattle.pp_algebra.proofs.Bools.{left_true, right_true, both_true}
 use Rattle.pp_algebra.proofs.CanonLemmas.{same_list-IsSame}
-use Rattle.pp_term.specs.Cells.{cells_of}
-use Rattle.pp_term.specs.Reading.{tree_of, IsOneTerm}
-use Rattle.pp_term.specs.declared.cell.Cell.{Cell}
-use Rattle.pp_term.specs.contracts.cell.CellPartialEq.TheImpl.{eq-value}
-use Rattle.pp_term.proofs.Decide.{cell_decides}
-use Rattle.pp_term.proofs.Keys.{taken, place_now, position_place}
+use Rattle.pp_row.specs.Cells.{cells_of}
+use Rattle.pp_row.specs.Reading.{tree_of, IsOneTerm}
+use Rattle.pp_row.specs.declared.cell.Cell.{Cell}
+use Rattle.pp_row.specs.contracts.cell.CellPartialEq.TheImpl.{eq-value}
+use Rattle.pp_row.proofs.Decide.{cell_decides}
+use Rattle.pp_row.proofs.Keys.{taken, place_now, position_place}
 use Rattle.pp_lgg.specs.declared.pair.Pair.{Pair}
 use Rattle.pp_lgg.specs.Pairs.{IsPair, name, names}
 

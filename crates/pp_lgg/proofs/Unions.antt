@@ -9,13 +9,13 @@ use Rattle.std.proofs.Math.Bool.{or-false}
 use Rattle.pp_algebra.specs.Terms.{Tree, int, node, variable, count}
 use Rattle.pp_algebra.specs.Rows.{Domain, Domains}
 use Rattle.pp_algebra.specs.Least.{values, both, union_of}
-use Rattle.pp_term.specs.declared.cell.Cell.{Cell}
+use Rattle.pp_row.specs.declared.cell.Cell.{Cell}
 use Rattle.pp_domain.specs.Sets.{set_of}
 use Rattle.pp_domain.proofs.Ascending.{one_value_alone}
-use Rattle.pp_term.specs.Columns.{set_by}
-use Rattle.pp_term.specs.Cells.{head_of, cells_of}
-use Rattle.pp_term.specs.Reading.{tree_of, IsOneTerm}
-use Rattle.pp_term.proofs.Next.{cell_of}
+use Rattle.pp_row.specs.Columns.{set_by}
+use Rattle.pp_row.specs.Cells.{head_of, cells_of}
+use Rattle.pp_row.specs.Reading.{tree_of, IsOneTerm}
+use Rattle.pp_row.proofs.Next.{cell_of}
 use Rattle.pp_lgg.specs.declared.pair.Pair.{Pair}
 use Rattle.pp_lgg.specs.Pairs.{IsPair, name}
 use Rattle.pp_lgg.specs.Values.{values_at}

@@ -1,13 +1,13 @@
 -- How far the walk of two terms has come.
 use Rattle.std.proofs.Common.{◌≡◌, ℕ, true, false, List, [], ◌∷◌, ◌++◌, refl, ap, ◌∙◌, sym, append_assoc, append-nil, inl}
 use Rattle.std.specs.Prelude.{cond}
-use Rattle.pp_term.specs.declared.cell.Cell.{Cell}
-use Rattle.pp_term.specs.declared.cell.Cell.TheVariants.{Var}
+use Rattle.pp_row.specs.declared.cell.Cell.{Cell}
+use Rattle.pp_row.specs.declared.cell.Cell.TheVariants.{Var}
 use Rattle.pp_algebra.specs.Terms.{Tree, variable, Trees, none, more, put, put_all, variables, variables_all}
 use Rattle.pp_algebra.specs.Canon.{has, firsts, place, same_list}
 use Rattle.pp_algebra.proofs.CanonLemmas.{same_list-IsSame, has-all}
-use Rattle.pp_term.specs.Cells.{cells_of, cells_of_all}
-use Rattle.pp_term.proofs.Numbering.{firsts-append, place-front}
+use Rattle.pp_row.specs.Cells.{cells_of, cells_of_all}
+use Rattle.pp_row.proofs.Numbering.{firsts-append, place-front}
 use Rattle.pp_lgg.specs.Pairs.{placed}
 use Rattle.pp_lgg.proofs.Common.{Agrees}
 

@@ -1,10 +1,10 @@
 -- What is hashed of a pair: all cells of its two terms.
 use Rattle.std.specs.Prelude.{List, ◌++◌}
 use Rattle.std.specs.Hash as fed
-use Rattle.pp_term.specs.declared.cell.Cell.{Cell}
-use Rattle.pp_term.specs.declared.cell.Cell.TheVariants.{Int, Atom, Compound, Var}
-use Rattle.pp_term.specs.contracts.cell.CellPartialEq.TheImpl.{eq-value}
-use Rattle.pp_term.proofs.Decide.{cell_decides}
+use Rattle.pp_row.specs.declared.cell.Cell.{Cell}
+use Rattle.pp_row.specs.declared.cell.Cell.TheVariants.{Int, Atom, Compound, Var}
+use Rattle.pp_row.specs.contracts.cell.CellPartialEq.TheImpl.{eq-value}
+use Rattle.pp_row.proofs.Decide.{cell_decides}
 
 abbrev pub cell_writes : Cell → fed.HashWrites
 cell_writes (Int n) = fed.u8 0 ++ fed.i64 n

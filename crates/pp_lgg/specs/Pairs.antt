@@ -2,9 +2,9 @@
 use Rattle.std.specs.Prelude.{ℕ, List, [], ◌∷◌, map}
 use Rattle.pp_algebra.specs.Terms.{Tree, variable}
 use Rattle.pp_algebra.specs.Canon.{place, same_list}
-use Rattle.pp_term.specs.declared.cell.Cell.{Cell}
-use Rattle.pp_term.specs.declared.cell.Cell.TheVariants.{Int, Atom, Compound, Var}
-use Rattle.pp_term.specs.Reading.{tree_of, IsOneTerm}
+use Rattle.pp_row.specs.declared.cell.Cell.{Cell}
+use Rattle.pp_row.specs.declared.cell.Cell.TheVariants.{Int, Atom, Compound, Var}
+use Rattle.pp_row.specs.Reading.{tree_of, IsOneTerm}
 use Rattle.pp_lgg.specs.declared.pair.Pair.{Pair}
 
 -- both are the cells of a term

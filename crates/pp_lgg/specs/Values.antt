@@ -2,8 +2,8 @@
 use Rattle.std.specs.Prelude.{ℕ, [], ◌∷◌, Option, Some, None}
 use Rattle.std.specs.FinSet as set
 use Rattle.pp_algebra.specs.Rows.{Domain, Domains}
-use Rattle.pp_term.specs.declared.cell.Cell.{Cell}
-use Rattle.pp_term.specs.declared.cell.Cell.TheVariants.{Int, Atom, Compound, Var}
+use Rattle.pp_row.specs.declared.cell.Cell.{Cell}
+use Rattle.pp_row.specs.declared.cell.Cell.TheVariants.{Int, Atom, Compound, Var}
 
 -- None where the term may be something else
 abbrev pub values_at : Domains ℕ → Cell → Option Domain

@@ -4,15 +4,15 @@ ghost use Rattle.std.specs.FinSet as set;
 ghost use Rattle.pp_algebra.specs.Members.{IsInteger};
 ghost use Rattle.pp_algebra.specs.Rows.{domain_at};
 ghost use Rattle.pp_algebra.specs.Least.{both, union_of};
-ghost use Rattle.pp_term.specs.Columns.{set_by, sets_of};
-ghost use Rattle.pp_term.specs.Cells.{IsLegalCell};
+ghost use Rattle.pp_row.specs.Columns.{set_by, sets_of};
+ghost use Rattle.pp_row.specs.Cells.{IsLegalCell};
 ghost use Rattle.pp_lgg.specs.Pairs.{IsPair, name, names};
 ghost use Rattle.pp_lgg.specs.Values.{values_at};
 
 use crate::pair::Pair;
 use indexmap::IndexSet;
 use pp_domain::Domain;
-use pp_term::Cell;
+use pp_row::Cell;
 use std::alloc::{AllocError, Global};
 
 fn copy_of(domain: &Option<Domain>) -> Result<Option<Domain>, AllocError>

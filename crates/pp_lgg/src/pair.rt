@@ -4,7 +4,7 @@ ghost use Rattle.std.specs.Hash.{and-Alike, on_Alike, items_Alike};
 ghost use Rattle.pp_lgg.specs.declared.pair.Pair.{Pair};
 ghost use Rattle.pp_lgg.specs.Hashing.{cell_writes, writes, cells_alike};
 
-use pp_term::Cell;
+use pp_row::Cell;
 use std::hash::{Hash, Hasher};
 
 /// The cells of two terms that stand at one place of two rows.

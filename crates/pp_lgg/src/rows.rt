@@ -6,7 +6,7 @@ ghost use Rattle.pp_algebra.specs.Least.{least_row};
 use crate::domains::unions;
 use crate::walk::joined;
 use indexmap::IndexSet;
-use pp_term::Row;
+use pp_row::Row;
 use std::alloc::{AllocError, Global};
 
 /// The least row that covers both.

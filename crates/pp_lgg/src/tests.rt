@@ -1,11 +1,11 @@
 //! Joins of small rows, of a deep term, and of random rows in two orders.
 ghost use Rattle.std.specs.Prelude.{◌<◌, IfOk};
 ghost use Rattle.pp_algebra.specs.Rows.{IsWide};
-ghost use Rattle.pp_term.specs.Columns.{set_by};
+ghost use Rattle.pp_row.specs.Columns.{set_by};
 
 use crate::join;
 use pp_domain::Domain;
-use pp_term::{Cell, Row, Term};
+use pp_row::{Cell, Row, Term};
 use std::alloc::Global;
 use std::test::Fail;
 

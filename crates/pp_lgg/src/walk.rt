@@ -3,12 +3,12 @@ ghost use Rattle.std.specs.Prelude.{◌≡◌, ◌<◌, ◌≤◌, ◌+◌, ◌�
 ghost use Rattle.pp_algebra.specs.Terms.{put, variables};
 ghost use Rattle.pp_algebra.specs.Canon.{firsts, place, same_list};
 ghost use Rattle.pp_algebra.specs.Least.{first, rest, least_tree};
-ghost use Rattle.pp_term.specs.Reading.{IsForest, IsOneTerm, from, tree_of};
+ghost use Rattle.pp_row.specs.Reading.{IsForest, IsOneTerm, from, tree_of};
 ghost use Rattle.pp_lgg.specs.Pairs.{IsPair, IsFixed, name, names, placed};
 
 use crate::pair::Pair;
 use indexmap::IndexSet;
-use pp_term::{Cell, Term, end_of};
+use pp_row::{Cell, Term, end_of};
 use std::alloc::{AllocError, Global};
 
 /// The place of the pair among the pairs, which take it in where it is new.

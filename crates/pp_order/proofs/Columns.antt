@@ -4,11 +4,10 @@ use Rattle.std.specs.Prelude.{◌↔◌}
 use Rattle.std.proofs.Math.ListN.{drop_of_length-le}
 use Rattle.pp_algebra.specs.Terms.{Tree, int, Trees, none, more, count, put, put_all, variables, variables_all}
 use Rattle.pp_algebra.specs.Rows.{Domain, Domains, Row, IsNumbered, domain_at, pattern_of}
-use Rattle.pp_algebra.specs.Covers.{IsIn, MayGo, Covers}
-use Rattle.pp_algebra.specs.Laws.{RowCovers}
+use Rattle.pp_algebra.specs.Covers.{IsIn, MayGo, Covers, RowCovers}
 use Rattle.pp_algebra.proofs.Order.{IsIn-left, IsIn-right}
 use Rattle.pp_algebra.proofs.Antisym.{IsIn-either}
-use Rattle.pp_term.specs.Columns.{trees_of, sets_of}
+use Rattle.pp_row.specs.Columns.{trees_of, sets_of}
 use Rattle.pp_order.specs.Bindings.{term_of, Follows, Takes}
 use Rattle.pp_order.proofs.Walking.{Walked}
 

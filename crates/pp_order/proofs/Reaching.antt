@@ -9,9 +9,9 @@ use Rattle.pp_algebra.specs.Terms.{Tree, int, node, variable, count}
 use Rattle.pp_algebra.specs.Rows.{Domain, Domains}
 use Rattle.pp_algebra.specs.Covers.{IsWithin, MayGo}
 use Rattle.pp_domain.specs.Sets.{set_of}
-use Rattle.pp_term.specs.Columns.{set_by}
-use Rattle.pp_term.specs.Cells.{head_of}
-use Rattle.pp_term.proofs.Next.{cell_of}
+use Rattle.pp_row.specs.Columns.{set_by}
+use Rattle.pp_row.specs.Cells.{head_of}
+use Rattle.pp_row.proofs.Next.{cell_of}
 use Rattle.pp_order.specs.Reach.{Reaches}
 
 -- a domain behind a reference

@@ -1,14 +1,15 @@
 -- One step further in the cells of two terms.
 use Rattle.std.proofs.Common.{◌≡◌, ℕ, suc, ◌+◌, ◌-◌, ◌<◌, ◌≤◌, List, [], ◌∷◌, length, take, drop, get_or, Some, Option, All, refl, ap, ◌∙◌, sym, arith, subst, append-nil}
 use Rattle.std.proofs.lemmas.List.Elements.{All-drop, All-take}
-use Rattle.pp_term.specs.declared.cell.Cell.{Cell}
+use Rattle.pp_row.specs.declared.cell.Cell.{Cell}
 use Rattle.pp_algebra.specs.Terms.{Tree, Trees, none, more, count}
 use Rattle.pp_algebra.specs.Least.{first, rest, arguments}
-use Rattle.pp_term.specs.Cells.{cells_of, arity_of, IsTerm, IsLegalCell}
-use Rattle.pp_term.specs.Codes.{stack-cells_of, tree_of-cells_of}
-use Rattle.pp_term.specs.Reading.{stack, all_of, tree_of, IsForest, IsOneTerm, from}
-use Rattle.pp_term.proofs.Next.{IsNext, next, count-join, count_from}
-use Rattle.pp_term.proofs.Piece.{piece}
+use Rattle.pp_row.specs.Cells.{cells_of, arity_of, IsTerm, IsLegalCell}
+use Rattle.pp_row.specs.Codes.{stack-cells_of, tree_of-cells_of}
+use Rattle.pp_row.specs.Reading.{stack, all_of, tree_of, IsForest, IsOneTerm, from}
+use Rattle.pp_row.proofs.Next.{IsNext, next, count_from}
+use Rattle.pp_algebra.proofs.Joined.{count-join}
+use Rattle.pp_row.proofs.Piece.{piece}
 
 -- the cells of one term
 reads : (o : Option (Trees ℕ)) (us : Trees ℕ) → o ≡ Some us → o ≡ Some (all_of o)

@@ -1,20 +1,20 @@
 -- What a substitution takes to what, cell by cell.
 use Rattle.std.proofs.Common.{◌≡◌, ℕ, ℤ, zero, suc, List, [], ◌∷◌, ◌++◌, refl, ap, ◌∙◌, sym, arith, append_assoc, inl, inr, subst, ◌+◌, ◌<◌, length, get_or, Bool, true, false}
 use Rattle.std.specs.Prelude.{not}
-use Rattle.pp_term.specs.declared.cell.Cell.{Cell}
-use Rattle.pp_term.specs.declared.cell.Cell.TheVariants.{Int, Atom, Compound, Var}
-use Rattle.pp_algebra.specs.Terms.{Tree, int, node, variable, Trees, none, more, count, put, put_all, variables, variables_all}
+use Rattle.pp_row.specs.declared.cell.Cell.{Cell}
+use Rattle.pp_row.specs.declared.cell.Cell.TheVariants.{Int, Atom, Compound, Var}
+use Rattle.pp_algebra.specs.Terms.{Tree, int, node, variable, Trees, none, more, count, put, put_all, variables, variables_all, join}
 use Rattle.pp_algebra.specs.Rows.{Domains}
 use Rattle.pp_algebra.specs.Covers.{IsIn, MayGo}
 use Rattle.pp_algebra.specs.Least.{first, rest, arguments}
 use Rattle.pp_algebra.proofs.Put.{count-put_all}
 use Rattle.pp_algebra.proofs.Order.{IsIn-left, IsIn-right}
 use Rattle.pp_algebra.proofs.Antisym.{IsIn-either}
-use Rattle.pp_term.specs.contracts.cell.CellPartialEq.TheImpl.{eq-value}
-use Rattle.pp_term.proofs.Decide.{cell_decides}
-use Rattle.pp_term.specs.Cells.{head_of}
-use Rattle.pp_term.specs.Reading.{join, from, IsForest}
-use Rattle.pp_term.proofs.Next.{cell_of, IsNext, next}
+use Rattle.pp_row.specs.contracts.cell.CellPartialEq.TheImpl.{eq-value}
+use Rattle.pp_row.proofs.Decide.{cell_decides}
+use Rattle.pp_row.specs.Cells.{head_of}
+use Rattle.pp_row.specs.Reading.{from, IsForest}
+use Rattle.pp_row.proofs.Next.{cell_of, IsNext, next}
 use Rattle.pp_order.specs.Bindings.{Takes}
 
 variables_all-join : (xs ys : Trees ℕ) → variables_all (join xs ys) ≡ variables_all xs ++ variables_all ys

@@ -12,13 +12,13 @@ use Rattle.pp_algebra.specs.Terms.{Tree, int, variable, Trees, none, more, put, 
 use Rattle.pp_algebra.specs.Rows.{Domains, IsNumbered}
 use Rattle.pp_algebra.specs.Covers.{IsIn, MayGo}
 use Rattle.pp_algebra.specs.Least.{first, rest}
-use Rattle.pp_term.specs.declared.cell.Cell.{Cell}
-use Rattle.pp_term.specs.declared.cell.Cell.TheVariants.{Var}
-use Rattle.pp_term.specs.contracts.cell.CellPartialEq.TheImpl.{eq-value}
-use Rattle.pp_term.specs.Cells.{cells_of}
-use Rattle.pp_term.specs.Reading.{tree_of, IsOneTerm}
-use Rattle.pp_term.proofs.Decide.{cell_decides}
-use Rattle.pp_term.proofs.Next.{cell_of, IsNext}
+use Rattle.pp_row.specs.declared.cell.Cell.{Cell}
+use Rattle.pp_row.specs.declared.cell.Cell.TheVariants.{Var}
+use Rattle.pp_row.specs.contracts.cell.CellPartialEq.TheImpl.{eq-value}
+use Rattle.pp_row.specs.Cells.{cells_of}
+use Rattle.pp_row.specs.Reading.{tree_of, IsOneTerm}
+use Rattle.pp_row.proofs.Decide.{cell_decides}
+use Rattle.pp_row.proofs.Next.{cell_of, IsNext}
 use Rattle.pp_order.specs.Bindings.{terms, term_of, Follows, Takes, AreBound}
 use Rattle.pp_order.proofs.Taking.{IsFixed, past_cell, before_cell, no_cell, variables_next}
 

@@ -4,8 +4,8 @@ use Rattle.std.specs.Borrow.{Bor}
 use Rattle.pp_algebra.specs.Terms.{Tree, int, Trees, put_all, variables_all}
 use Rattle.pp_algebra.specs.Rows.{Domains}
 use Rattle.pp_algebra.specs.Covers.{IsIn, MayGo}
-use Rattle.pp_term.specs.declared.cell.Cell.{Cell}
-use Rattle.pp_term.specs.Reading.{tree_of, IsOneTerm}
+use Rattle.pp_row.specs.declared.cell.Cell.{Cell}
+use Rattle.pp_row.specs.Reading.{tree_of, IsOneTerm}
 
 -- the terms of the variables from 0 on
 abbrev pub terms : List (Bor (List Cell)) → List (Tree ℕ)

@@ -3,11 +3,11 @@ ghost use Rattle.std.specs.Prelude.{◌≡◌, ◌↔◌, IsTrue, MatchOption, S
 ghost use Rattle.pp_algebra.specs.Covers.{IsWithin};
 ghost use Rattle.pp_algebra.specs.Rows.{domain_at};
 ghost use Rattle.pp_domain.specs.Sets.{set_of};
-ghost use Rattle.pp_term.specs.Columns.{sets_of};
+ghost use Rattle.pp_row.specs.Columns.{sets_of};
 ghost use Rattle.pp_order.specs.Reach.{Reaches};
 
 use pp_domain::Domain;
-use pp_term::Cell;
+use pp_row::Cell;
 
 /// The finite domain of a variable, where it has one.
 fn domain_of(domains: &[Option<Domain>], variable: u32) -> Option<&Domain>

@@ -1,10 +1,10 @@
 //! Whether one row covers another.
 ghost use Rattle.std.specs.Prelude.{◌≡◌, ◌↔◌, IfOk, IsTrue};
 ghost use Rattle.pp_algebra.specs.Terms.{count};
-ghost use Rattle.pp_algebra.specs.Laws.{RowCovers};
+ghost use Rattle.pp_algebra.specs.Covers.{RowCovers};
 
 use crate::walk::covers_term;
-use pp_term::Row;
+use pp_row::Row;
 use smallvec::SmallVec;
 use std::alloc::{AllocError, Global};
 

@@ -4,13 +4,13 @@ ghost use Rattle.pp_algebra.specs.Terms.{Tree, variables, more, none};
 ghost use Rattle.pp_algebra.specs.Rows.{IsNumbered, domain_at};
 ghost use Rattle.pp_algebra.specs.Covers.{MayGo};
 ghost use Rattle.pp_algebra.specs.Least.{first, rest};
-ghost use Rattle.pp_term.specs.Columns.{sets_of};
-ghost use Rattle.pp_term.specs.Reading.{IsForest, IsOneTerm, from, tree_of};
+ghost use Rattle.pp_row.specs.Columns.{sets_of};
+ghost use Rattle.pp_row.specs.Reading.{IsForest, IsOneTerm, from, tree_of};
 ghost use Rattle.pp_order.specs.Bindings.{AreBound, Follows, Takes, terms, term_of};
 
 use crate::reach::may_go;
 use pp_domain::Domain;
-use pp_term::{Cell, Term, end_of};
+use pp_row::{Cell, Term, end_of};
 use smallvec::SmallVec;
 use std::alloc::AllocError;
 

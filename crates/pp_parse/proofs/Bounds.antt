@@ -3,7 +3,7 @@ use Rattle.std.proofs.Common.{◌≡◌, ℕ, ℤ, ◌+◌, ◌<◌, ◌≤◌, 
 use Rattle.std.specs.Prelude.{Bool, IsTrue, ◌↔◌, option_map}
 use Rattle.std.proofs.lemmas.List.{length-drop, drop-drop}
 use Rattle.std.proofs.lemmas.Int.{ints}
-use Rattle.pp_domain.specs.Intervals.{IsInteger}
+use Rattle.pp_algebra.specs.Members.{IsInteger}
 use Rattle.pp_domain.proofs.Words.{word_is}
 use Rattle.pp_language.specs.declared.token.Kind.{Kind}
 use Rattle.pp_language.specs.Texts.{Text}

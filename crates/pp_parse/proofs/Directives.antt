@@ -5,7 +5,8 @@ use Rattle.std.proofs.lemmas.Option.{same_Some}
 use Rattle.pp_language.specs.declared.token.Kind.{Kind}
 use Rattle.pp_language.specs.declared.token.Kind.TheVariants.{Atom, Left, Right, Neck}
 use Rattle.pp_language.specs.declared.token.Token.{Token}
-use Rattle.pp_language.specs.Texts.{Text, same_text, part}
+use Rattle.pp_language.specs.Texts.{Text, part}
+use Rattle.pp_algebra.specs.Texts.{same_text}
 use Rattle.pp_language.specs.Kinds.{spells}
 use Rattle.pp_language.specs.Tokens.{IsTokenOf}
 use Rattle.pp_language.specs.Words.{Word, word, word_of, is_atom_kind}

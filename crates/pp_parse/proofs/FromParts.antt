@@ -3,10 +3,11 @@ use Rattle.std.proofs.Common.{◌≡◌, ℕ, suc, ◌+◌, List, [], ◌∷◌,
 use Rattle.std.specs.Prelude.{All, slice_get}
 use Rattle.std.proofs.lemmas.Bool.{and_parts}
 use Rattle.pp_algebra.specs.Canon.{has, place}
-use Rattle.pp_term.specs.Cells.{head_of, cells_of}
+use Rattle.pp_row.specs.Cells.{head_of, cells_of}
 use Rattle.pp_language.specs.declared.token.Kind.{Kind}
 use Rattle.pp_language.specs.declared.token.Kind.TheVariants.{Atom, Quoted}
-use Rattle.pp_language.specs.Texts.{Text, same_text}
+use Rattle.pp_language.specs.Texts.{Text}
+use Rattle.pp_algebra.specs.Texts.{same_text}
 use Rattle.pp_language.specs.Kinds.{unquoted}
 use Rattle.pp_language.specs.Words.{Word, is_name_kind, atom_of}
 use Rattle.pp_language.specs.Phrases as phrases
@@ -27,7 +28,7 @@ use Rattle.pp_parse.proofs.ReadingLeaves.{terms-count}
 -- ===== first cells
 
 shows_term : (names named : List Text) (n : ℕ) (p : phrases.Phrase) (us : List Word) → AreSpelled (phrase_words p ++ us) → ShowsFirst p (slice_get (cells_of (term_of names named n p)) 0)
-shows_term names named n (integer_phrase bs) us h = (let l = integer_legal bs h.0 in (refl, record { at_least = l.0; at_most = l.1 }))
+shows_term names named n (integer_phrase bs) us h = (refl, integer_legal bs h.0)
 shows_term names named n (variable_phrase bs) us h = tt
 shows_term names named n (said w no_phrases) us h = tt
 shows_term names named n (said w (phrase_and p ps)) us h = ap suc (terms-count names named (n + blanks p) ps)

@@ -3,10 +3,11 @@ use Rattle.std.proofs.Common.{◌≡◌, ℕ, zero, suc, ◌<◌, true, not, Lis
 use Rattle.std.specs.Prelude.{slice_get}
 use Rattle.std.proofs.lemmas.Option.{same_Some}
 use Rattle.pp_algebra.specs.Canon.{has, place}
-use Rattle.pp_term.specs.declared.cell.Cell.{Cell}
-use Rattle.pp_term.specs.declared.cell.Cell.TheVariants.{Compound}
-use Rattle.pp_term.specs.Cells.{head_of}
-use Rattle.pp_language.specs.Texts.{Text, same_text}
+use Rattle.pp_row.specs.declared.cell.Cell.{Cell}
+use Rattle.pp_row.specs.declared.cell.Cell.TheVariants.{Compound}
+use Rattle.pp_row.specs.Cells.{head_of}
+use Rattle.pp_language.specs.Texts.{Text}
+use Rattle.pp_algebra.specs.Texts.{same_text}
 use Rattle.pp_language.specs.Words.{is_built_in, atom_of}
 use Rattle.pp_language.specs.Phrases as phrases
 use Rattle.pp_language.specs.Phrases.{integer_phrase, variable_phrase, said, no_phrases, phrase_and, count, term_part, mark}

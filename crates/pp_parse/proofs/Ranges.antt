@@ -10,10 +10,10 @@ use Rattle.std.proofs.lemmas.Bool.{or_right, and_parts, and_from}
 use Rattle.std.proofs.lemmas.Int.{ints, by_lt_z}
 use Rattle.pp_algebra.specs.Covers.{IsIn}
 use Rattle.pp_algebra.specs.Rows.{Domain}
-use Rattle.pp_algebra.specs.Members.{all_integers}
+use Rattle.pp_algebra.specs.Members.{all_integers, IsInteger, integers_from}
 use Rattle.pp_algebra.proofs.Bools.{int_same, int_is}
 use Rattle.pp_algebra.proofs.MembersListed.{members-contained}
-use Rattle.pp_domain.specs.Intervals.{IsInteger, IsDomain, run, natural, count, integers}
+use Rattle.pp_domain.specs.Intervals.{IsDomain, natural, count, integers}
 use Rattle.pp_domain.specs.Sets.{set_of}
 use Rattle.pp_domain.proofs.Canonical.{set_is, empty_is}
 use Rattle.pp_domain.proofs.Words.{Decides-int_le}
@@ -62,7 +62,7 @@ in_all : (v : ℤ) → IsInteger v → IsIn v all_integers
 in_all v h =
     let d : Domain = set.from_list (v ∷ []) in
     let c : set.contains d v ≡ true = set.contains-from_list int_cmp_total (v ∷ []) v ∙ ap (λ b. b || false) (int_same v) in
-    kept (set.contains d) v all_integers ((members-contained d v).1 ((h.at_least, h.at_most), c))
+    kept (set.contains d) v all_integers ((members-contained d v).1 (h, c))
 
 lie_between : (low high v : ℤ) → IsInteger low → IsInteger high → Decides (set.contains (integers_between low high) v) ((low ≤ℤ v) × (v ≤ℤ high))
 lie_between low high v l h = (there, back)
@@ -102,8 +102,8 @@ no_natural (negsuc n) h = refl
 
 -- an interval that ends before it begins has no integers
 none_of : (low high : ℤ) → high <ℤ low → set_of ((low, high) ∷ []) ≡ set.empty
-unfolding set_of integers count run
-none_of low high h = ap (λ n. set.from_list (run low n ++ [])) (no_natural ((high -ℤ low) +ℤ pos 1) (omega (arith, ints)))
+unfolding set_of integers count integers_from
+none_of low high h = ap (λ n. set.from_list (integers_from low n ++ [])) (no_natural ((high -ℤ low) +ℤ pos 1) (omega (arith, ints)))
 
 one_range : (low high : ℤ) → IsInteger low → IsInteger high → set_of ((low, high) ∷ []) ≡ integers_between low high
 one_range low high l h = by_lt_z high low (λ less. none_of low high less ∙ none_between low high l h less) (λ more. range_is low high l h more)

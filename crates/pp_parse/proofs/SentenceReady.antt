@@ -6,7 +6,8 @@ use Rattle.pp_algebra.specs.Canon.{has, firsts}
 use Rattle.pp_language.specs.declared.token.Kind.{Kind}
 use Rattle.pp_language.specs.declared.token.Kind.TheVariants.{Variable}
 use Rattle.pp_language.specs.declared.token.Token.{Token}
-use Rattle.pp_language.specs.Texts.{Text, same_text}
+use Rattle.pp_language.specs.Texts.{Text}
+use Rattle.pp_algebra.specs.Texts.{same_text}
 use Rattle.pp_language.specs.Kinds.{spells}
 use Rattle.pp_language.specs.Tokens.{IsTokenOf}
 use Rattle.pp_language.specs.Words.{Word, word_of}

@@ -24,7 +24,7 @@ spelled_all [] h = tt
 spelled_all (w ∷ ws) h = (All-head (λ v. IsTrue (spells v.kind v.text)) w ws h, spelled_all ws (All-tail (λ v. IsTrue (spells v.kind v.text)) w ws h))
 
 within : (v : ℕ) → v ≤ greatest_size → IsInteger (pos v) × IsInteger (pos 0 -ℤ pos v)
-within v h = ((omega (arith, ints), omega (arith, ints)), (omega (arith, ints), omega (arith, ints)))
+within v h = (record { at_least = omega (arith, ints); at_most = omega (arith, ints) }, record { at_least = omega (arith, ints); at_most = omega (arith, ints) })
 
 pub integer_legal : (bs : Text) → is_integer_text bs ≡ true → IsInteger (integer_of bs)
 integer_legal [] h = absurd (cc)

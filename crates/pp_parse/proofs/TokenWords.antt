@@ -4,9 +4,10 @@ use Rattle.std.specs.List.{flat_map}
 use Rattle.std.proofs.lemmas.Grind.{flat_map-append}
 use Rattle.std.proofs.Math.Seq.{drop-cons}
 use Rattle.pp_algebra.specs.Canon.{firsts}
-use Rattle.pp_term.proofs.Numbering.{firsts-append}
+use Rattle.pp_row.proofs.Numbering.{firsts-append}
 use Rattle.pp_language.specs.declared.token.Token.{Token}
-use Rattle.pp_language.specs.Texts.{Text, same_text}
+use Rattle.pp_language.specs.Texts.{Text}
+use Rattle.pp_algebra.specs.Texts.{same_text}
 use Rattle.pp_language.specs.Words.{Word, word_of}
 use Rattle.pp_language.specs.Meanings.{texts_by}
 use Rattle.pp_lex.specs.declared.lists.Sentence.{Sentence}

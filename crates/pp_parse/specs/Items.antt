@@ -3,7 +3,8 @@ use Rattle.std.specs.Prelude.{Bool, false, not, cond, List, ◌∷◌, drop, Opt
 use Rattle.pp_sld.specs.Verdicts.{Mode, most, unique, consistent}
 use Rattle.pp_language.specs.declared.token.Kind.{Kind}
 use Rattle.pp_language.specs.declared.token.Kind.TheVariants.{Atom, Infers, Equals, InDomain, Less, AtMost, Equal, Differ}
-use Rattle.pp_language.specs.Texts.{Text, same_text}
+use Rattle.pp_language.specs.Texts.{Text}
+use Rattle.pp_algebra.specs.Texts.{same_text}
 use Rattle.pp_language.specs.Words.{atom_of, is_built_in}
 use Rattle.pp_language.specs.Phrases.{Phrase, said, no_phrases, count, Part, term_part}
 use Rattle.pp_language.specs.Statements.{BodyItem, calls, equates, belongs, compares, QueryPhrase, asks_equal, asks_member, asks_infer}

@@ -1,10 +1,11 @@
 -- What a token is to the terms of its sentence.
 use Rattle.std.specs.Prelude.{ℕ, List}
-use Rattle.pp_term.specs.declared.cell.Cell.TheVariants.{Int, Var}
+use Rattle.pp_row.specs.declared.cell.Cell.TheVariants.{Int, Var}
 use Rattle.pp_algebra.specs.Canon.{place}
 use Rattle.pp_language.specs.declared.token.Kind.{Kind}
 use Rattle.pp_language.specs.declared.token.Kind.TheVariants.{Integer, Atom, Quoted, Variable}
-use Rattle.pp_language.specs.Texts.{Text, same_text}
+use Rattle.pp_language.specs.Texts.{Text}
+use Rattle.pp_algebra.specs.Texts.{same_text}
 use Rattle.pp_language.specs.Words.{atom_of}
 use Rattle.pp_language.specs.Meanings.{integer_of}
 use Rattle.pp_parse.specs.declared.tokens.Leaf.{Leaf}

@@ -1,7 +1,8 @@
 -- What is known of a sentence that was parsed.
 use Rattle.std.specs.Prelude.{◌≡◌, ℕ, IsTrue, All, List, [], length}
 use Rattle.pp_algebra.specs.Canon.{has, firsts}
-use Rattle.pp_language.specs.Texts.{Text, same_text}
+use Rattle.pp_language.specs.Texts.{Text}
+use Rattle.pp_algebra.specs.Texts.{same_text}
 use Rattle.pp_language.specs.Kinds.{spells}
 use Rattle.pp_language.specs.Words.{Word}
 use Rattle.pp_language.specs.Phrases as phrases

@@ -1,6 +1,6 @@
 -- The parts of a sentence, as the code keeps them.
 use Rattle.std.specs.Prelude.{◌≡◌, ℕ, ◌+◌, List, [], ◌∷◌, length, Some}
-use Rattle.pp_term.specs.Cells.{cells_of}
+use Rattle.pp_row.specs.Cells.{cells_of}
 use Rattle.pp_language.specs.Texts.{Text}
 use Rattle.pp_language.specs.Words.{Word}
 use Rattle.pp_language.specs.Phrases as phrases

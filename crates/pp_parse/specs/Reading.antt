@@ -1,8 +1,8 @@
 -- What the code has read of a sentence from the right.
 use Rattle.std.specs.Prelude.{◌≡◌, ℕ, suc, ◌+◌, Bool, true, false, List, [], ◌∷◌, ◌++◌, map, reverse, length, Option, Some, None}
 use Rattle.std.specs.List.{flat_map}
-use Rattle.pp_term.specs.declared.cell.Cell.{Cell}
-use Rattle.pp_term.specs.Cells.{cells_of, cells_of_all}
+use Rattle.pp_row.specs.declared.cell.Cell.{Cell}
+use Rattle.pp_row.specs.Cells.{cells_of, cells_of_all}
 use Rattle.pp_language.specs.Texts.{Text}
 use Rattle.pp_language.specs.Phrases as phrases
 use Rattle.pp_language.specs.Phrases.{Phrase, Phrases, phrase_and, count, phrase_words, group_words}

@@ -1,12 +1,13 @@
 -- What the code's parts show of the parts of a sentence: the first cell of each term.
 use Rattle.std.specs.Prelude.{◌≡◌, Bool, true, false, IsTrue, List, [], ◌∷◌, Option, Some, None, slice_get}
 use Rattle.pp_algebra.specs.Canon.{has, place}
-use Rattle.pp_domain.specs.Intervals.{IsInteger}
-use Rattle.pp_term.specs.Cells.{head_of}
-use Rattle.pp_term.specs.declared.cell.Cell.{Cell}
-use Rattle.pp_term.specs.declared.cell.Cell.TheVariants.{Int, Atom, Compound, Var}
+use Rattle.pp_algebra.specs.Members.{IsInteger}
+use Rattle.pp_row.specs.Cells.{head_of}
+use Rattle.pp_row.specs.declared.cell.Cell.{Cell}
+use Rattle.pp_row.specs.declared.cell.Cell.TheVariants.{Int, Atom, Compound, Var}
 use Rattle.pp_language.specs.declared.token.Kind.TheVariants.{Integer, Variable}
-use Rattle.pp_language.specs.Texts.{Text, same_text}
+use Rattle.pp_language.specs.Texts.{Text}
+use Rattle.pp_algebra.specs.Texts.{same_text}
 use Rattle.pp_language.specs.Words.{Word, word, atom_of}
 use Rattle.pp_language.specs.Phrases as phrases
 use Rattle.pp_language.specs.Phrases.{Phrase, integer_phrase, variable_phrase, said, no_phrases, phrase_and, count, term_part, mark}

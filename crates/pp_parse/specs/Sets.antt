@@ -2,7 +2,7 @@
 use Rattle.std.specs.Prelude.{◌≡◌, ℤ, List, [], ◌∷◌}
 use Rattle.std.specs.FinSet as set
 use Rattle.pp_algebra.specs.Rows.{Domain}
-use Rattle.pp_domain.specs.Intervals.{IsInteger}
+use Rattle.pp_algebra.specs.Members.{IsInteger}
 use Rattle.pp_domain.specs.Sets.{set_of}
 use Rattle.pp_language.specs.Statements.{Bounds}
 use Rattle.pp_language.specs.Meanings.{integers_between, bounds_set}

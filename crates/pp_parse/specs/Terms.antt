@@ -2,7 +2,8 @@
 use Rattle.std.specs.Prelude.{ℕ, ◌+◌, cond, List, codes}
 use Rattle.pp_algebra.specs.Terms.{Tree, int, node, variable, Trees, none, more}
 use Rattle.pp_algebra.specs.Canon.{place}
-use Rattle.pp_language.specs.Texts.{Text, same_text}
+use Rattle.pp_language.specs.Texts.{Text}
+use Rattle.pp_algebra.specs.Texts.{same_text}
 use Rattle.pp_language.specs.Words.{atom_of}
 use Rattle.pp_language.specs.Phrases.{Phrase, integer_phrase, variable_phrase, said, Phrases, no_phrases, phrase_and}
 use Rattle.pp_language.specs.Meanings.{integer_of, blanks}

@@ -4,7 +4,8 @@ use Rattle.std.specs.List.{flat_map}
 use Rattle.pp_language.specs.declared.token.Kind.{Kind}
 use Rattle.pp_language.specs.declared.token.Kind.TheVariants.{Variable}
 use Rattle.pp_language.specs.declared.token.Token.{Token}
-use Rattle.pp_language.specs.Texts.{Text, same_text}
+use Rattle.pp_language.specs.Texts.{Text}
+use Rattle.pp_algebra.specs.Texts.{same_text}
 use Rattle.pp_language.specs.Words.{Word, word_of}
 use Rattle.pp_language.specs.Meanings.{texts_by}
 

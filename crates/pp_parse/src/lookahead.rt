@@ -1,6 +1,6 @@
 //! What stands at a place among the parts of a sentence.
 ghost use Rattle.std.specs.Prelude.{◌≡◌, List, drop, option_map, IfSome, MatchOption, false, IsTrue, ◌↔◌, Some, slice_get};
-ghost use Rattle.pp_domain.specs.Intervals.{IsInteger};
+ghost use Rattle.pp_algebra.specs.Members.{IsInteger};
 ghost use Rattle.pp_language.specs.Phrases as phrases;
 ghost use Rattle.pp_language.specs.Meanings.{integer_of};
 ghost use Rattle.pp_parse.specs.Seen.{AreSeen, ShowsIn};

@@ -2,7 +2,7 @@
 ghost use Rattle.std.specs.Prelude.{◌≡◌, All, IfOk, OnOk, MatchOption, IsTrue, [], false};
 ghost use Rattle.std.specs.List.{flat_map};
 ghost use Rattle.pp_algebra.specs.Canon.{firsts, has, place};
-ghost use Rattle.pp_language.specs.Texts.{same_text};
+ghost use Rattle.pp_algebra.specs.Texts.{same_text};
 ghost use Rattle.pp_language.specs.Tokens.{IsTokenOf};
 ghost use Rattle.pp_language.specs.Words.{atom_of};
 ghost use Rattle.pp_language.specs.Meanings.{texts_by};

@@ -1,7 +1,7 @@
 //! The parts of a sentence: terms, and what stands between them.
 ghost use Rattle.std.specs.Prelude.{◌≡◌, ◌<◌, ◌^◌, All, IfOk, IsTrue, MatchOption, None, length, []};
 ghost use Rattle.pp_algebra.specs.Canon.{firsts, has};
-ghost use Rattle.pp_language.specs.Texts.{same_text};
+ghost use Rattle.pp_algebra.specs.Texts.{same_text};
 ghost use Rattle.pp_language.specs.Tokens.{IsTokenOf};
 ghost use Rattle.pp_language.specs.PartsOf.{parts_of};
 ghost use Rattle.pp_parse.specs.Words.{words_of, texts_in, named_in, blanks_in};

@@ -1,6 +1,6 @@
 //! What is read of a sentence from the right, token by token.
 ghost use Rattle.std.specs.Prelude.{◌≡◌, ℕ, ◌+◌, ◌<◌, ◌^◌, List, [], ◌∷◌, All, IfOk, OnOk, MatchOption, reverse, length, Some, None};
-ghost use Rattle.pp_term.specs.Cells.{head_of, cells_of};
+ghost use Rattle.pp_row.specs.Cells.{head_of, cells_of};
 ghost use Rattle.pp_language.specs.Texts.{Text};
 ghost use Rattle.pp_language.specs.Phrases as phrases;
 ghost use Rattle.pp_language.specs.Phrases.{no_phrases, phrase_words};

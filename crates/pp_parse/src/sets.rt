@@ -1,7 +1,7 @@
 //! Sets of integers at a place among the parts of a sentence.
 ghost use Rattle.std.specs.Prelude.{◌≡◌, ◌≤◌, List, length, drop, option_map, IfOk, OnOk, IfSome};
 ghost use Rattle.std.specs.FinSet as set;
-ghost use Rattle.pp_domain.specs.Intervals.{IsInteger};
+ghost use Rattle.pp_algebra.specs.Members.{IsInteger};
 ghost use Rattle.pp_language.specs.Phrases as phrases;
 ghost use Rattle.pp_language.specs.Meanings.{integer_of, integers_between, bounds_set, bounds_sets, set_by};
 ghost use Rattle.pp_term.specs.Meanings.{members_by};

@@ -1,7 +1,8 @@
 //! The statement that the parts of a sentence are.
 ghost use Rattle.std.specs.Prelude.{◌≡◌, ◌≤◌, ◌<◌, ◌^◌, All, List, length, drop, true, IfOk, MatchOption, MatchBool, IsTrue, Some};
 ghost use Rattle.pp_algebra.specs.Canon.{has};
-ghost use Rattle.pp_language.specs.Texts.{Text, same_text};
+ghost use Rattle.pp_language.specs.Texts.{Text};
+ghost use Rattle.pp_algebra.specs.Texts.{same_text};
 ghost use Rattle.pp_language.specs.Tokens.{IsTokenOf};
 ghost use Rattle.pp_language.specs.Words.{Word, is_built_in};
 ghost use Rattle.pp_language.specs.Phrases as phrases;

@@ -1,6 +1,7 @@
 //! The texts of tokens.
 ghost use Rattle.std.specs.Prelude.{◌≡◌, ◌≤◌, length, IfOk};
-ghost use Rattle.pp_language.specs.Texts.{part, same_text};
+ghost use Rattle.pp_language.specs.Texts.{part};
+ghost use Rattle.pp_algebra.specs.Texts.{same_text};
 ghost use Rattle.pp_language.specs.Kinds.{unquoted};
 
 use pp_language::Token;

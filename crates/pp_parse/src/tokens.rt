@@ -2,7 +2,8 @@
 ghost use Rattle.std.specs.Prelude.{◌≡◌, ◌+◌, ◌≤◌, ◌<◌, ◌^◌, All, IfOk, OnOk, IsTrue, length};
 ghost use Rattle.std.specs.List.{list_all};
 ghost use Rattle.pp_algebra.specs.Canon.{has};
-ghost use Rattle.pp_language.specs.Texts.{same_text, is_digit};
+ghost use Rattle.pp_language.specs.Texts.{is_digit};
+ghost use Rattle.pp_algebra.specs.Texts.{same_text};
 ghost use Rattle.pp_language.specs.Kinds.{value_of, greatest_size, is_integer_text, spells};
 ghost use Rattle.pp_language.specs.Meanings.{integer_of, texts_by};
 ghost use Rattle.pp_parse.specs.Words.{named_by, blanks_by};

@@ -1,7 +1,7 @@
 //! The variables of a sentence.
 ghost use Rattle.std.specs.Prelude.{◌≡◌, ◌+◌, ◌<◌, ◌^◌, All, IfOk, OnOk, length, []};
 ghost use Rattle.pp_algebra.specs.Canon.{firsts};
-ghost use Rattle.pp_language.specs.Texts.{same_text};
+ghost use Rattle.pp_algebra.specs.Texts.{same_text};
 ghost use Rattle.pp_language.specs.Tokens.{IsTokenOf};
 ghost use Rattle.pp_parse.specs.Words.{words_of, named_by, named_in, blanks_by, blanks_in};
 

@@ -2,11 +2,10 @@
 use Rattle.std.proofs.Common.{◌≡◌, ◌≢◌, ℕ, suc, List, [], ◌∷◌, ◌++◌, drop, get_or, length, ◌<◌, ◌≤◌, ◌+◌, refl, ap, sym, ◌∙◌, append-nil, append_assoc, add-one}
 use Rattle.std.proofs.Math.Seq.{drop-cons}
 use Rattle.std.proofs.lemmas.List.{drop_all}
-use Rattle.pp_algebra.specs.Terms.{Tree, int, node, variable, Trees, none, more, count}
-use Rattle.pp_term.specs.declared.cell.Cell.{Cell}
-use Rattle.pp_term.specs.declared.cell.Cell.TheVariants.{Int, Atom, Compound, Var}
-use Rattle.pp_term.specs.Cells.{cells_of, cells_of_all, arity_of}
-use Rattle.pp_term.specs.Reading.{join}
+use Rattle.pp_algebra.specs.Terms.{Tree, int, node, variable, Trees, none, more, count, join}
+use Rattle.pp_row.specs.declared.cell.Cell.{Cell}
+use Rattle.pp_row.specs.declared.cell.Cell.TheVariants.{Int, Atom, Compound, Var}
+use Rattle.pp_row.specs.Cells.{cells_of, cells_of_all, arity_of}
 use Rattle.pp_language.specs.Texts.{Text}
 use Rattle.pp_language.specs.Printing.{term_text, more_arguments_text, atom_text, name_at}
 use Rattle.pp_print.specs.Left.{cell_text, behind, text_left}

@@ -10,7 +10,8 @@ use Rattle.pp_algebra.proofs.Antisym.{IsIn-either}
 use Rattle.pp_sld.specs.Goals.{Predicate, Clause}
 use Rattle.pp_language.specs.declared.token.Kind.{Kind}
 use Rattle.pp_language.specs.declared.token.Kind.TheVariants.{Point}
-use Rattle.pp_language.specs.Texts.{Text, same_text}
+use Rattle.pp_language.specs.Texts.{Text}
+use Rattle.pp_algebra.specs.Texts.{same_text}
 use Rattle.pp_language.specs.Tokens.{AreTokensOf}
 use Rattle.pp_language.specs.Sentences.{NoPoint, FallInto, clean, AreSentences}
 use Rattle.pp_language.specs.Words.{Word, word, word_of, is_name_kind, atom_of, is_built_in}

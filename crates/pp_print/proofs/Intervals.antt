@@ -4,7 +4,8 @@ use Rattle.std.specs.Ordering.{int_eq}
 use Rattle.std.proofs.lemmas.Bool.{cond-true, cond-false, false_from_ne_true}
 use Rattle.std.proofs.lemmas.Int.{ints}
 use Rattle.pp_algebra.proofs.Bools.{int_same, int_is}
-use Rattle.pp_domain.specs.Intervals.{IsApart, IsDomain, run, count, integers}
+use Rattle.pp_domain.specs.Intervals.{IsApart, IsDomain, count, integers}
+use Rattle.pp_algebra.specs.Members.{integers_from}
 use Rattle.pp_domain.proofs.Members.{count_is}
 use Rattle.pp_domain.proofs.MembersListed.{members-set_of}
 use Rattle.pp_domain.specs.Sets.{set_of}
@@ -24,8 +25,8 @@ with-behind n (p ∷ ps) h = cond-false (int_eq (n +ℤ pos 1) p.0) _ _ (false_f
 with-adjacent : (n m : ℤ) (ps : List (ℤ × ℤ)) → with_intervals n ((n +ℤ pos 1, m) ∷ ps) ≡ (n, m) ∷ ps
 with-adjacent n m ps = cond-true (int_eq (n +ℤ pos 1) (n +ℤ pos 1)) _ _ (int_same (n +ℤ pos 1))
 
-intervals-run : (low : ℤ) (n : ℕ) (ns : List ℤ) (ps : List (ℤ × ℤ)) → intervals_of ns ≡ ps → IsBehind (low +ℤ pos n) ps → intervals_of (run low (suc n) ++ ns) ≡ (low, low +ℤ pos n) ∷ ps
-unfolding run
+intervals-run : (low : ℤ) (n : ℕ) (ns : List ℤ) (ps : List (ℤ × ℤ)) → intervals_of ns ≡ ps → IsBehind (low +ℤ pos n) ps → intervals_of (integers_from low (suc n) ++ ns) ≡ (low, low +ℤ pos n) ∷ ps
+unfolding integers_from
 intervals-run low zero ns ps e h =
     let z : low +ℤ pos 0 ≡ low = omega (arith, ints) in
     ap (with_intervals low) e ∙ with-behind low ps (subst (λ m. IsBehind m ps) z h) ∙ ap (λ m. (low, m) ∷ ps) (sym z)
@@ -44,7 +45,7 @@ unfolding integers
 intervals-integers [] low high a = refl
 intervals-integers (p ∷ ps) low high a = go (count p.0 p.1) (count_is p.0 p.1 a.1) (intervals-integers ps (p.1 +ℤ pos 1) high a.2)
   where
-    go : (n : ℕ) → p.0 +ℤ pos n ≡ (p.1 +ℤ pos 1) → intervals_of (integers ps) ≡ ps → intervals_of (run p.0 n ++ integers ps) ≡ p ∷ ps
+    go : (n : ℕ) → p.0 +ℤ pos n ≡ (p.1 +ℤ pos 1) → intervals_of (integers ps) ≡ ps → intervals_of (integers_from p.0 n ++ integers ps) ≡ p ∷ ps
     go zero e h = absurd (omega (arith, ints, e, a.1))
     go (suc n) e h =
         let z : p.0 +ℤ pos n ≡ p.1 = omega (arith, ints, e) in

@@ -1,9 +1,8 @@
 -- What is left to write of a term, cell by cell.
 use Rattle.std.proofs.Common.{◌≡◌, ℕ, zero, suc, pred, ◌-◌, ◌<◌, ◌≤◌, List, [], ◌∷◌, ◌++◌, length, refl, ap, sym, ◌∙◌, append_assoc, arith}
 use Rattle.std.proofs.lemmas.List.Sums.{fold-append}
-use Rattle.pp_algebra.specs.Terms.{Tree, Trees, none, more, count}
-use Rattle.pp_term.specs.Cells.{cells_of, cells_of_all}
-use Rattle.pp_term.specs.Reading.{join}
+use Rattle.pp_algebra.specs.Terms.{Tree, Trees, none, more, count, join}
+use Rattle.pp_row.specs.Cells.{cells_of, cells_of_all}
 use Rattle.pp_language.specs.Texts.{Text}
 use Rattle.pp_language.specs.Printing.{term_text, more_arguments_text}
 use Rattle.pp_print.specs.Left.{all_text, closing, behind, text_left}

@@ -4,10 +4,10 @@ use Rattle.std.proofs.Math.Seq.{drop-cons}
 use Rattle.std.proofs.lemmas.List.{drop_all, take_all}
 use Rattle.pp_algebra.specs.Terms.{Tree, int, node, variable, Trees, none, more, variables, variables_all, count}
 use Rattle.pp_algebra.specs.Canon.{has}
-use Rattle.pp_term.specs.declared.cell.Cell.{Cell}
-use Rattle.pp_term.specs.declared.cell.Cell.TheVariants.{Int, Atom, Compound, Var}
-use Rattle.pp_term.specs.Cells.{head_of, cells_of, cells_of_all}
-use Rattle.pp_term.specs.Columns.{trees_of}
+use Rattle.pp_row.specs.declared.cell.Cell.{Cell}
+use Rattle.pp_row.specs.declared.cell.Cell.TheVariants.{Int, Atom, Compound, Var}
+use Rattle.pp_row.specs.Cells.{head_of, cells_of, cells_of_all}
+use Rattle.pp_row.specs.Columns.{trees_of}
 use Rattle.pp_print.specs.Marks.{cell_variables, mark_at, AddsMarks}
 
 variables-append : (cs ds : List Cell) → cell_variables (cs ++ ds) ≡ cell_variables cs ++ cell_variables ds

@@ -12,7 +12,7 @@ use Rattle.pp_algebra.proofs.Antisym.{put_all-agree, occurs}
 use Rattle.pp_algebra.proofs.CanonLemmas.{IsSame, at, name, nat_eq-IsSame}
 use Rattle.pp_algebra.proofs.OneCanon.{one_canon}
 use Rattle.pp_algebra.proofs.Order.{variables_all-put_all}
-use Rattle.pp_term.proofs.Keys.{same_text-IsSame}
+use Rattle.pp_row.proofs.Keys.{same_text-IsSame}
 use Rattle.pp_language.specs.Texts.{Text}
 use Rattle.pp_language.specs.Keys.{Key, named, unnamed, same_key, is_named, named_first, numbered}
 use Rattle.pp_language.specs.Meanings.{keys_in}

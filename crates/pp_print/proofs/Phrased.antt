@@ -6,9 +6,10 @@ use Rattle.std.specs.Fmt.{signed_decimal}
 use Rattle.std.proofs.lemmas.Bool.{and_from, and_parts, both_ways, cond-true, cond-false, false_from_ne_true, or_left, or_right}
 use Rattle.pp_algebra.specs.Terms.{Tree, int, node, variable, Trees, none, more, put_all}
 use Rattle.pp_algebra.specs.Canon.{has, place, Distinct}
-use Rattle.pp_term.proofs.Keys.{same_text-itself}
+use Rattle.pp_row.proofs.Keys.{same_text-itself}
 use Rattle.pp_language.specs.declared.token.Kind.TheVariants.{Integer, Variable, Left, Right, Comma}
-use Rattle.pp_language.specs.Texts.{Text, same_text}
+use Rattle.pp_language.specs.Texts.{Text}
+use Rattle.pp_algebra.specs.Texts.{same_text}
 use Rattle.pp_language.specs.Words.{Word, word}
 use Rattle.pp_language.specs.Phrases.{Phrase, integer_phrase, variable_phrase, said, Phrases, no_phrases, phrase_and, phrase_words, group_words, more_phrase_words, is_phrase, are_phrases}
 use Rattle.pp_language.specs.Keys.{Key, named, key_of}

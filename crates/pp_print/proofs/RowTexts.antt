@@ -2,7 +2,7 @@
 use Rattle.std.proofs.Common.{◌≡◌, ℤ, ℕ, ◌≤◌, List, [], ◌∷◌, ◌++◌, map, drop, length, codes, Option, refl, ap, sym, ◌∙◌, append-nil}
 use Rattle.std.proofs.lemmas.List.{drop_all}
 use Rattle.pp_algebra.specs.Terms.{Tree}
-use Rattle.pp_term.specs.Columns.{trees_of, sets_of}
+use Rattle.pp_row.specs.Columns.{trees_of, sets_of}
 use Rattle.pp_language.specs.Texts.{Text}
 use Rattle.pp_language.specs.Printing.{term_text, column_texts, ranged_texts, joined, behind_columns}
 use Rattle.pp_print.proofs.Listed.{listed, listed-joined, listed-behind, listed_end}

@@ -101,8 +101,8 @@ negative n ds w l = record {
 }
 
 pub integer-written : (n : ℤ) → members.IsInteger n → IsInteger n (signed_decimal n)
-integer-written (pos n) l = positive n (decimal n) (decimal-writes n (omega (arith, ints, l))) (omega (arith, ints, l))
-integer-written (negsuc n) l = negative n (decimal (suc n)) (decimal-writes (suc n) (omega (arith, ints, l))) (omega (arith, ints, l))
+integer-written (pos n) l = positive n (decimal n) (decimal-writes n (omega (arith, ints, l.at_most))) (omega (arith, ints, l.at_most))
+integer-written (negsuc n) l = negative n (decimal (suc n)) (decimal-writes (suc n) (omega (arith, ints, l.at_least))) (omega (arith, ints, l.at_least))
 
 -- ===== variables
 

@@ -3,7 +3,7 @@ use Rattle.std.proofs.Common.{◌≡◌, ℤ, ℕ, zero, suc, ◌+◌, min, Bool
 use Rattle.std.proofs.lemmas.List.{length-map}
 use Rattle.pp_algebra.specs.Terms.{Tree, Trees, more, variables_all}
 use Rattle.pp_algebra.specs.Rows.{Domain}
-use Rattle.pp_term.specs.Columns.{trees_of, set_by, sets_of}
+use Rattle.pp_row.specs.Columns.{trees_of, set_by, sets_of}
 use Rattle.pp_language.specs.Texts.{Text}
 use Rattle.pp_language.specs.Printing.{name_at, ranged_text}
 use Rattle.pp_language.specs.Answers.{lines, named_lines, domain_lines, first_columns}

@@ -8,11 +8,12 @@ use Rattle.std.proofs.lemmas.List.Folds.{list_all-append}
 use Rattle.pp_algebra.specs.Canon.{has, firsts, Distinct}
 use Rattle.pp_algebra.proofs.CanonLemmas.{IsSame}
 use Rattle.pp_algebra.proofs.OneCanon.{distinct_push}
-use Rattle.pp_term.proofs.Keys.{same_text-IsSame}
+use Rattle.pp_row.proofs.Keys.{same_text-IsSame}
 use Rattle.pp_language.specs.declared.token.Kind.{Kind}
 use Rattle.pp_language.specs.declared.token.Kind.TheVariants.{Atom, Quoted, Variable}
 use Rattle.pp_language.specs.declared.token.Token.{Token}
-use Rattle.pp_language.specs.Texts.{Text, same_text, is_digit, is_lower, is_upper, is_underscore, is_word}
+use Rattle.pp_language.specs.Texts.{Text, is_digit, is_lower, is_upper, is_underscore, is_word}
+use Rattle.pp_algebra.specs.Texts.{same_text}
 use Rattle.pp_language.specs.Kinds.{is_plain_atom, is_word_from, is_variable_text, is_plain_byte, is_quoted_rest, is_after_quote, unquoted_rest, unquoted_pair, unquoted, spells}
 use Rattle.pp_language.specs.Tokens.{AreTokensOf}
 use Rattle.pp_language.specs.Sentences.{FallInto}

@@ -8,7 +8,8 @@ use Rattle.pp_algebra.specs.Canon.{Distinct}
 use Rattle.pp_sld.specs.Goals.{Predicate}
 use Rattle.pp_language.specs.declared.token.Kind.{Kind}
 use Rattle.pp_language.specs.declared.token.Token.{Token}
-use Rattle.pp_language.specs.Texts.{Text, same_text, is_word, part}
+use Rattle.pp_language.specs.Texts.{Text, is_word, part}
+use Rattle.pp_algebra.specs.Texts.{same_text}
 use Rattle.pp_language.specs.Kinds.{is_plain_byte, spells}
 use Rattle.pp_language.specs.Tokens.{IsLastGap, AreTokensOf}
 use Rattle.pp_language.specs.Sentences.{clean, AreSentences}

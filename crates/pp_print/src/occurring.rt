@@ -2,7 +2,7 @@
 ghost use Rattle.std.specs.Prelude.{◌≡◌, IfOk};
 ghost use Rattle.pp_algebra.specs.Terms.{variables_all};
 ghost use Rattle.pp_print.specs.Marks.{cell_variables, Marks, AddsMarks};
-ghost use Rattle.pp_term.specs.Columns.{trees_of};
+ghost use Rattle.pp_row.specs.Columns.{trees_of};
 
 use pp_term::{Cell, Term};
 use std::alloc::{AllocError, Global};

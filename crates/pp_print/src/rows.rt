@@ -1,7 +1,7 @@
 //! Rows.
 ghost use Rattle.std.specs.Prelude.{◌≡◌, ◌++◌, IfOk, OnOk, codes};
 ghost use Rattle.pp_language.specs.Printing.{joined, column_texts, ranged_texts, behind_columns, row_text};
-ghost use Rattle.pp_term.specs.Columns.{trees_of, sets_of};
+ghost use Rattle.pp_row.specs.Columns.{trees_of, sets_of};
 
 use crate::domains::write_ranged;
 use crate::terms::write_term;

@@ -3,7 +3,7 @@ ghost use Rattle.std.specs.Prelude.{◌≡◌, ◌++◌, IfOk, OnOk, map, codes,
 ghost use Rattle.pp_language.specs.Printing.{name_at, term_text};
 ghost use Rattle.pp_language.specs.Answers.{line, lines, last_line, named_lines, domain_lines, first_columns, unfinished_line, store_text};
 ghost use Rattle.pp_print.specs.Marks.{marked_lines};
-ghost use Rattle.pp_term.specs.Columns.{trees_of, sets_of};
+ghost use Rattle.pp_row.specs.Columns.{trees_of, sets_of};
 
 use crate::atoms::name_text;
 use crate::domains::write_ranged;

@@ -1,7 +1,7 @@
 //! The happy paths: texts of terms, domains, rows and stores.
 ghost use Rattle.std.specs.Prelude.{◌≤◌, IfOk};
 ghost use Rattle.std.specs.FinSet as set;
-ghost use Rattle.pp_domain.specs.Intervals.{IsInteger};
+ghost use Rattle.pp_algebra.specs.Members.{IsInteger};
 ghost use Rattle.pp_domain.specs.Sets.{set_of};
 
 use crate::{domain_text, row_text, store_text, term_text};

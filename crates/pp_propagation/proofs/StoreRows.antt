@@ -11,7 +11,8 @@ use Rattle.pp_algebra.proofs.Put.{count-put_all}
 use Rattle.pp_algebra.proofs.Resume.{wide_at}
 use Rattle.pp_algebra.proofs.CanonLemmas.{IsSame, nat_eq-IsSame, canon-IsCanonical}
 use Rattle.pp_sld.specs.Goals.{Goal}
-use Rattle.pp_propagation.specs.Stores.{column, arguments_under, face, face_variables, either_domains, same_either, replaced_by, apply}
+use Rattle.pp_propagation.specs.Stores.{arguments_under, face, face_variables, either_domains, same_either, replaced_by, apply}
+use Rattle.pp_algebra.specs.Numbered.{column}
 
 all_wide : {V : Type 0} (ds : Domains V) → ((v : V) → IsWide (ds v)) → (vs : List V) → All IsWide (map ds vs)
 all_wide ds h [] = All-nil IsWide

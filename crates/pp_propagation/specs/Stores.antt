@@ -6,7 +6,7 @@ use Rattle.pp_algebra.specs.Rows.{Domains, Pattern, Row, domain_at}
 use Rattle.pp_algebra.specs.Canon.{has, place, firsts, canon}
 use Rattle.pp_algebra.specs.Solve.{Item, IsSolved, HasNone}
 use Rattle.pp_sld.specs.Goals.{Goal}
-use Rattle.pp_sld.specs.Leaves.{variables_from}
+use Rattle.pp_algebra.specs.Numbered.{variables_from, column}
 use Rattle.pp_sld.specs.Verdicts.{Mode}
 use Rattle.pp_language.specs.Programs.{QueryItem, solves, infers, Query}
 
@@ -36,11 +36,6 @@ Begins q store = IsSolved (unknowns q) (items_of q.items) store
 
 abbrev pub BeginsNowhere : Query → Type 0
 BeginsNowhere q = HasNone (unknowns q) (items_of q.items)
-
-abbrev pub column : Trees ℕ → ℕ → Tree ℕ
-column none v = int (pos 0)
-column (more t ts) zero = t
-column (more t ts) (suc v) = column ts v
 
 -- a goal's arguments, each of the query's variables replaced by its column
 abbrev pub arguments_under : Row → Goal ℕ → Trees ℕ

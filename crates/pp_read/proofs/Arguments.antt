@@ -2,17 +2,17 @@
 use Rattle.std.proofs.Common.{◌≡◌, ℕ, ◌+◌, ◌-◌, ◌<◌, ◌≤◌, List, [], ◌∷◌, ◌++◌, length, take, drop, Some, refl, ap, sym, ◌∙◌, subst, arith, append-nil, All}
 use Rattle.std.proofs.lemmas.List.{drop_all}
 use Rattle.std.proofs.lemmas.List.Elements.{All-take, All-drop}
-use Rattle.pp_algebra.specs.Terms.{Tree, Trees, none, more}
+use Rattle.pp_algebra.specs.Terms.{Tree, Trees, none, more, join}
 use Rattle.pp_algebra.specs.Least.{first, rest, arguments}
-use Rattle.pp_term.specs.declared.cell.Cell.{Cell}
-use Rattle.pp_term.specs.declared.cell.Cell.TheVariants.{Atom}
-use Rattle.pp_term.specs.Cells.{IsLegalCell, cells_of}
-use Rattle.pp_term.specs.Reading.{join, stack, all_of, tree_of, from, IsOneTerm, IsForest}
-use Rattle.pp_term.specs.Codes.{stack-cells_of, tree_of-cells_of}
-use Rattle.pp_term.specs.Columns.{trees_of}
-use Rattle.pp_term.proofs.OneTerm.{one_of}
-use Rattle.pp_term.proofs.Next.{next}
-use Rattle.pp_term.proofs.Piece.{piece}
+use Rattle.pp_row.specs.declared.cell.Cell.{Cell}
+use Rattle.pp_row.specs.declared.cell.Cell.TheVariants.{Atom}
+use Rattle.pp_row.specs.Cells.{IsLegalCell, cells_of}
+use Rattle.pp_row.specs.Reading.{stack, all_of, tree_of, from, IsOneTerm, IsForest}
+use Rattle.pp_row.specs.Codes.{stack-cells_of, tree_of-cells_of}
+use Rattle.pp_row.specs.Columns.{trees_of}
+use Rattle.pp_row.proofs.OneTerm.{one_of}
+use Rattle.pp_row.proofs.Next.{next}
+use Rattle.pp_row.proofs.Piece.{piece}
 
 join-none : (ts : Trees ℕ) → join ts none ≡ ts
 join-none none = refl

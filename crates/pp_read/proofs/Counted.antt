@@ -11,7 +11,7 @@ use Rattle.pp_algebra.specs.Terms.{variable, Trees, variables_all}
 use Rattle.pp_algebra.specs.Canon.{has, place, firsts}
 use Rattle.pp_algebra.proofs.Order.{variables_all-put_all}
 use Rattle.pp_algebra.proofs.CanonLemmas.{IsSame, nat_eq-IsSame, has-all, at, at-place}
-use Rattle.pp_term.proofs.Keys.{same_text-IsSame}
+use Rattle.pp_row.proofs.Keys.{same_text-IsSame}
 use Rattle.pp_language.specs.Texts.{Text}
 use Rattle.pp_language.specs.Keys.{Key, named, unnamed, same_key, is_named, named_first, numbered}
 use Rattle.pp_language.specs.Phrases.{Phrase}

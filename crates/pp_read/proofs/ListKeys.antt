@@ -5,7 +5,8 @@ use Rattle.std.specs.List.{flat_map}
 use Rattle.std.proofs.lemmas.List.Elements.{filter-append}
 use Rattle.pp_algebra.specs.Terms.{Trees, variables_all}
 use Rattle.pp_algebra.specs.Canon.{firsts}
-use Rattle.pp_language.specs.Texts.{Text, same_text}
+use Rattle.pp_language.specs.Texts.{Text}
+use Rattle.pp_algebra.specs.Texts.{same_text}
 use Rattle.pp_language.specs.Keys.{Key, same_key, named_first, texts_of, numbered}
 use Rattle.pp_language.specs.Phrases.{Phrases}
 use Rattle.pp_language.specs.Meanings.{blanks_all, keyed_all, keyed_lists, keys_in}

@@ -14,7 +14,7 @@ use Rattle.pp_language.specs.Statements.{BodyItem, calls, equates, belongs, comp
 use Rattle.pp_language.specs.Meanings.{blanks_all, said_arguments, body_phrases, head_predicate, clause_by, predicate_by}
 use Rattle.pp_term.specs.declared.clause.Clause.{Clause}
 use Rattle.pp_term.specs.declared.pred.Shape.TheVariants.{User}
-use Rattle.pp_term.specs.Columns.{trees_of}
+use Rattle.pp_row.specs.Columns.{trees_of}
 use Rattle.pp_term.specs.Meanings.{predicate_of, goal_of, clause_of}
 use Rattle.pp_term.specs.WellFormed.{IsClause, AreArguments}
 use Rattle.pp_parse.specs.declared.parts.Part.{Part}

@@ -8,10 +8,11 @@ use Rattle.pp_algebra.specs.Terms.{Trees, none, more}
 use Rattle.pp_algebra.specs.Canon.{has, place}
 use Rattle.pp_sld.specs.BuiltIns.{plus, times, indomain}
 use Rattle.pp_sld.specs.Goals.{Predicate, Shape, user, equals, member, test, Goal}
-use Rattle.pp_term.specs.Cells.{cells_of}
+use Rattle.pp_row.specs.Cells.{cells_of}
 use Rattle.pp_language.specs.declared.token.Kind.{Kind}
 use Rattle.pp_language.specs.declared.token.Kind.TheVariants.{Atom, Quoted, Equals, InDomain}
-use Rattle.pp_language.specs.Texts.{Text, same_text}
+use Rattle.pp_language.specs.Texts.{Text}
+use Rattle.pp_algebra.specs.Texts.{same_text}
 use Rattle.pp_language.specs.Words.{Word, is_name_kind, atom_of}
 use Rattle.pp_language.specs.Phrases as phrases
 use Rattle.pp_language.specs.Phrases.{Phrase, integer_phrase, variable_phrase, said, Phrases, count, is_phrase, are_phrases, term_part, mark, phrase_words, group_words, parts_words}

@@ -9,7 +9,8 @@ use Rattle.pp_algebra.specs.Terms.{Trees}
 use Rattle.pp_algebra.specs.Canon.{firsts}
 use Rattle.pp_language.specs.declared.token.Kind.TheVariants.{Ask}
 use Rattle.pp_language.specs.declared.which.Which.TheVariants.{Arity, Variables, Goals}
-use Rattle.pp_language.specs.Texts.{Text, same_text}
+use Rattle.pp_language.specs.Texts.{Text}
+use Rattle.pp_algebra.specs.Texts.{same_text}
 use Rattle.pp_language.specs.Printing.{name_at}
 use Rattle.pp_language.specs.Programs as programs
 use Rattle.pp_language.specs.Keys.{texts_of, numbered}
@@ -20,7 +21,7 @@ use Rattle.pp_language.specs.Limits.{is_above, variable_count, query_too_wide, g
 use Rattle.pp_term.specs.declared.query.Item.{Item}
 use Rattle.pp_term.specs.declared.query.Item.TheVariants as items
 use Rattle.pp_term.specs.declared.query.Query.{Query}
-use Rattle.pp_term.specs.Meanings.{item_of, query_of}
+use Rattle.pp_read.specs.Meanings.{item_of, query_of}
 use Rattle.pp_term.specs.WellFormed.{IsQuery}
 use Rattle.pp_parse.specs.declared.parts.Part.{Part}
 use Rattle.pp_parse.specs.declared.items.Entry.{Entry}

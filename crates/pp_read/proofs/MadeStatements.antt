@@ -11,7 +11,8 @@ use Rattle.pp_algebra.specs.Canon.{firsts}
 use Rattle.pp_sld.specs.Goals.{Predicate, Goal, Clause}
 use Rattle.pp_language.specs.declared.token.Kind.TheVariants.{Neck}
 use Rattle.pp_language.specs.declared.which.Which.TheVariants.{Clauses, Arity, Variables}
-use Rattle.pp_language.specs.Texts.{Text, same_text}
+use Rattle.pp_language.specs.Texts.{Text}
+use Rattle.pp_algebra.specs.Texts.{same_text}
 use Rattle.pp_language.specs.Words.{Word, is_name_kind}
 use Rattle.pp_language.specs.Keys.{texts_of, named_first, numbered}
 use Rattle.pp_language.specs.Phrases as phrases

@@ -3,11 +3,11 @@ use Rattle.std.proofs.Common.{◌≡◌, ℕ, zero, suc, ◌+◌, Bool, false, �
 use Rattle.std.specs.Prelude.{All, slice_get}
 use Rattle.std.specs.List.{list_any}
 use Rattle.std.proofs.lemmas.Bool.{or_parts}
-use Rattle.pp_term.specs.declared.cell.Cell.{Cell}
-use Rattle.pp_term.specs.Cells.{cells_of}
-use Rattle.pp_term.specs.Reading.{tree_of}
-use Rattle.pp_term.specs.Codes.{tree_of-cells_of}
-use Rattle.pp_term.proofs.OneTerm.{one_of}
+use Rattle.pp_row.specs.declared.cell.Cell.{Cell}
+use Rattle.pp_row.specs.Cells.{cells_of}
+use Rattle.pp_row.specs.Reading.{tree_of}
+use Rattle.pp_row.specs.Codes.{tree_of-cells_of}
+use Rattle.pp_row.proofs.OneTerm.{one_of}
 use Rattle.pp_language.specs.declared.token.Kind.{Kind}
 use Rattle.pp_language.specs.Texts.{Text}
 use Rattle.pp_language.specs.Phrases as phrases

@@ -7,7 +7,8 @@ use Rattle.pp_algebra.specs.Terms.{Tree, node, variable, more, put, put_all, var
 use Rattle.pp_algebra.specs.Canon.{place}
 use Rattle.pp_language.specs.declared.token.Kind.{Kind}
 use Rattle.pp_language.specs.declared.token.Kind.TheVariants.{Variable}
-use Rattle.pp_language.specs.Texts.{Text, same_text}
+use Rattle.pp_language.specs.Texts.{Text}
+use Rattle.pp_algebra.specs.Texts.{same_text}
 use Rattle.pp_language.specs.Words.{Word, is_name_kind, atom_of}
 use Rattle.pp_language.specs.Keys.{Key, named, unnamed, same_key, key_of, texts_of}
 use Rattle.pp_language.specs.Phrases.{Phrase, integer_phrase, variable_phrase, said, Phrases, no_phrases, phrase_and, phrase_words, group_words, more_phrase_words, is_phrase, are_phrases}

@@ -12,10 +12,11 @@ use Rattle.pp_algebra.specs.Terms as terms
 use Rattle.pp_algebra.specs.Terms.{variables, variables_all}
 use Rattle.pp_algebra.specs.Canon.{place}
 use Rattle.pp_algebra.proofs.Antisym.{IsIn-either}
-use Rattle.pp_term.specs.Cells.{head_of, cells_of, cells_of_all, arity_of, IsLegalCell}
-use Rattle.pp_term.specs.declared.cell.Cell.{Cell}
-use Rattle.pp_term.specs.declared.cell.Cell.TheVariants.{Int, Var}
-use Rattle.pp_language.specs.Texts.{Text, same_text}
+use Rattle.pp_row.specs.Cells.{head_of, cells_of, cells_of_all, arity_of, IsLegalCell}
+use Rattle.pp_row.specs.declared.cell.Cell.{Cell}
+use Rattle.pp_row.specs.declared.cell.Cell.TheVariants.{Int, Var}
+use Rattle.pp_language.specs.Texts.{Text}
+use Rattle.pp_algebra.specs.Texts.{same_text}
 use Rattle.pp_language.specs.Kinds.{value_of, digits_of, is_number_text, is_integer_text, greatest_size, spells}
 use Rattle.pp_language.specs.Words.{Word}
 use Rattle.pp_language.specs.Phrases.{Phrase, integer_phrase, variable_phrase, said, Phrases, no_phrases, phrase_and, count, phrase_words, group_words, more_phrase_words}

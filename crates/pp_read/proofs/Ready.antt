@@ -15,8 +15,9 @@ use Rattle.pp_language.specs.Statements.{BodyItem, QueryPhrase, Statement, direc
 use Rattle.pp_language.specs.Limits.{is_above, when, passed}
 use Rattle.pp_term.specs.declared.clause.Clause as clauses
 use Rattle.pp_term.specs.declared.query.Query as queries
-use Rattle.pp_term.specs.Columns.{trees_of}
-use Rattle.pp_term.specs.Meanings.{predicate_of, goal_of, item_of}
+use Rattle.pp_row.specs.Columns.{trees_of}
+use Rattle.pp_term.specs.Meanings.{predicate_of, goal_of}
+use Rattle.pp_read.specs.Meanings.{item_of}
 use Rattle.pp_parse.specs.declared.parts.Part.{Part}
 use Rattle.pp_parse.specs.declared.items.Entry.{Entry}
 use Rattle.pp_parse.specs.declared.statement.Layout.{Layout}

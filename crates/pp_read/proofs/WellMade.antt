@@ -12,7 +12,8 @@ use Rattle.pp_sld.specs.Goals as goals
 use Rattle.pp_sld.specs.Goals.{user, equals, member, test}
 use Rattle.pp_language.specs.declared.token.Kind.{Kind}
 use Rattle.pp_language.specs.declared.token.Kind.TheVariants.{Less, AtMost, Equal}
-use Rattle.pp_language.specs.Texts.{Text, same_text}
+use Rattle.pp_language.specs.Texts.{Text}
+use Rattle.pp_algebra.specs.Texts.{same_text}
 use Rattle.pp_language.specs.Words.{Word, atom_of}
 use Rattle.pp_language.specs.Keys.{texts_of}
 use Rattle.pp_language.specs.Phrases.{integer_phrase, variable_phrase, said, Phrases, are_phrases}
@@ -24,8 +25,9 @@ use Rattle.pp_term.specs.declared.clause.Goal.{Goal}
 use Rattle.pp_term.specs.declared.clause.Goal.TheVariants.{Call, Equate, Member, Compare}
 use Rattle.pp_term.specs.declared.query.Item.{Item}
 use Rattle.pp_term.specs.declared.query.Item.TheVariants as items
-use Rattle.pp_term.specs.Columns.{trees_of}
-use Rattle.pp_term.specs.Meanings.{shape_of, goal_of, item_of}
+use Rattle.pp_row.specs.Columns.{trees_of}
+use Rattle.pp_term.specs.Meanings.{shape_of, goal_of}
+use Rattle.pp_read.specs.Meanings.{item_of}
 use Rattle.pp_term.specs.WellFormed.{arguments_of, AreArguments, IsGoal, IsItem}
 use Rattle.pp_parse.specs.Terms.{term_of, terms_of}
 use Rattle.pp_parse.proofs.KnownTexts.{Known, all_first, all_second}

@@ -10,7 +10,8 @@ use Rattle.pp_algebra.specs.Canon.{firsts}
 use Rattle.pp_sld.specs.Goals.{Predicate, Clause}
 use Rattle.pp_language.specs.declared.token.Token.{Token}
 use Rattle.pp_language.specs.declared.which.Which.{Which}
-use Rattle.pp_language.specs.Texts.{Text, same_text}
+use Rattle.pp_language.specs.Texts.{Text}
+use Rattle.pp_algebra.specs.Texts.{same_text}
 use Rattle.pp_language.specs.Tokens.{AreTokensOf}
 use Rattle.pp_language.specs.Sentences.{Ending, clean, FallInto, AreSentences}
 use Rattle.pp_language.specs.Programs.{Query as Asked, Written}
@@ -20,7 +21,8 @@ use Rattle.pp_language.specs.Statements.{BodyItem, Statement, directive, clause,
 use Rattle.pp_language.specs.Faults.{AllSay, IsInGrammar, sentence_words}
 use Rattle.pp_language.specs.Meanings.{said_arguments, body_phrases, texts_by, text_names, clauses_by, query_by, asked_by}
 use Rattle.pp_language.specs.Limits.{Writes, Passes, is_above, is_too_wide, body_too_wide, variable_count, when, passed, or_later, first_passed}
-use Rattle.pp_term.specs.Meanings.{clause_of, query_of}
+use Rattle.pp_term.specs.Meanings.{clause_of}
+use Rattle.pp_read.specs.Meanings.{query_of}
 use Rattle.pp_term.specs.declared.query.Query.{Query}
 use Rattle.pp_lex.specs.declared.lists.Sentence.{Sentence}
 use Rattle.pp_lex.specs.Readings.{tokens_of}

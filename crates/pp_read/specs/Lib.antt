@@ -1,3 +1,4 @@
+pub mod Meanings
 pub mod Pieces
 pub mod Values
 pub mod Passed

@@ -4,7 +4,7 @@ use Rattle.std.specs.List.{list_any}
 use Rattle.pp_language.specs.declared.which.Which.{Which}
 use Rattle.pp_language.specs.declared.which.Which.TheVariants.{Clauses, Arity, Variables, Goals}
 use Rattle.pp_language.specs.Limits.{is_above, when}
-use Rattle.pp_term.specs.Cells.{arity_of}
+use Rattle.pp_row.specs.Cells.{arity_of}
 use Rattle.pp_parse.specs.declared.parts.Part.{Part}
 use Rattle.pp_parse.specs.declared.parts.Part.TheVariants.{Term, Mark}
 use Rattle.pp_parse.specs.declared.items.Entry.{Entry}

@@ -2,7 +2,7 @@
 use Rattle.std.specs.Prelude.{ℕ, pos, List, Option, Some, None, slice_get}
 use Rattle.pp_algebra.specs.Terms.{Tree, int, node, variable, count}
 use Rattle.pp_sld.specs.Goals.{Predicate}
-use Rattle.pp_term.specs.Reading.{tree_of, IsOneTerm}
+use Rattle.pp_row.specs.Reading.{tree_of, IsOneTerm}
 use Rattle.pp_parse.specs.declared.parts.Part.{Part}
 use Rattle.pp_parse.specs.declared.parts.Part.TheVariants.{Term, Mark}
 

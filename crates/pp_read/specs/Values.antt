@@ -6,7 +6,8 @@ use Rattle.pp_algebra.specs.Solve.{equation, membership}
 use Rattle.pp_sld.specs.BuiltIns.{plus, times, indomain}
 use Rattle.pp_sld.specs.Goals.{Predicate, Shape, user, equals, member, test, Goal}
 use Rattle.pp_sld.specs.Verdicts.{most}
-use Rattle.pp_language.specs.Texts.{Text, same_text}
+use Rattle.pp_language.specs.Texts.{Text}
+use Rattle.pp_algebra.specs.Texts.{same_text}
 use Rattle.pp_language.specs.Printing.{name_at}
 use Rattle.pp_language.specs.Programs.{QueryItem, solves, infers}
 use Rattle.pp_term.specs.Meanings.{members_by, test_of, mode_of}

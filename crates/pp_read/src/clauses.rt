@@ -2,10 +2,11 @@
 ghost use Rattle.std.specs.Prelude.{◌≡◌, ◌+◌, ◌<◌, ◌^◌, All, IfOk, IsTrue, map, length};
 ghost use Rattle.pp_algebra.specs.Canon.{has};
 ghost use Rattle.pp_algebra.specs.Least.{arguments};
-ghost use Rattle.pp_language.specs.Texts.{same_text};
+ghost use Rattle.pp_algebra.specs.Texts.{same_text};
 ghost use Rattle.pp_language.specs.Printing.{name_at};
-ghost use Rattle.pp_term.specs.Columns.{trees_of};
-ghost use Rattle.pp_term.specs.Meanings.{predicate_of, goal_of, item_of};
+ghost use Rattle.pp_row.specs.Columns.{trees_of};
+ghost use Rattle.pp_term.specs.Meanings.{predicate_of, goal_of};
+ghost use Rattle.pp_read.specs.Meanings.{item_of};
 ghost use Rattle.pp_read.specs.Pieces.{tree_at, predicate_of_tree};
 ghost use Rattle.pp_read.specs.Values.{goal_from, item_from, HasSayingAt, IsGoalEntry, IsItemEntry};
 

@@ -1,6 +1,7 @@
 //! Goals, items, clauses and queries, made of the parts of a sentence.
 ghost use Rattle.std.specs.Prelude.{◌≡◌, ◌<◌, All, IfOk, map, length};
-ghost use Rattle.pp_term.specs.Meanings.{predicate_of, shape_of, goal_of, item_of};
+ghost use Rattle.pp_term.specs.Meanings.{predicate_of, shape_of, goal_of};
+ghost use Rattle.pp_read.specs.Meanings.{item_of};
 ghost use Rattle.pp_read.specs.Values.{shape_by, goal_from, item_from, HasSayingAt, IsGoalEntry, IsItemEntry};
 
 use crate::terms::{saying_at, term_at};

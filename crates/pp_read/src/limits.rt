@@ -2,7 +2,7 @@
 ghost use Rattle.std.specs.Prelude.{◌≡◌, ◌+◌, ◌<◌, ◌^◌, length, count_by};
 ghost use Rattle.std.specs.List.{list_any};
 ghost use Rattle.pp_language.specs.Limits.{is_above};
-ghost use Rattle.pp_term.specs.Cells.{arity_of};
+ghost use Rattle.pp_row.specs.Cells.{arity_of};
 ghost use Rattle.pp_read.specs.Passed.{is_wide, is_infer, clause_passed, query_passed};
 
 use pp_language::{

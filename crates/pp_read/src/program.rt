@@ -16,7 +16,7 @@ impl Model for ClauseList {
     ghost use Rattle.std.specs.Coded.{codes};
     ghost use Rattle.pp_term.specs.declared.clause.Clause.{Clause};
     ghost use Rattle.pp_term.specs.contracts.clause.Clause as clause;
-    ghost use Rattle.pp_term.specs.Codes.{tree_code};
+    ghost use Rattle.pp_row.specs.Codes.{tree_code};
 
     ghost Value = { List Clause };
 

@@ -1,7 +1,7 @@
 //! What a sentence writes.
 ghost use Rattle.std.specs.Prelude.{◌≡◌, ◌+◌, ◌<◌, ◌^◌, All, IfOk, IsTrue, MatchOption, length};
 ghost use Rattle.pp_algebra.specs.Canon.{has};
-ghost use Rattle.pp_language.specs.Texts.{same_text};
+ghost use Rattle.pp_algebra.specs.Texts.{same_text};
 ghost use Rattle.pp_language.specs.Tokens.{IsTokenOf};
 ghost use Rattle.pp_language.specs.Statements.{Statement, Says};
 ghost use Rattle.pp_parse.specs.Words.{words_of, texts_in};

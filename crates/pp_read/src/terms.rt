@@ -1,9 +1,9 @@
 //! The terms of a sentence's parts.
 ghost use Rattle.std.specs.Prelude.{◌≡◌, IfOk};
 ghost use Rattle.pp_algebra.specs.Least.{arguments};
-ghost use Rattle.pp_term.specs.Reading.{tree_of, IsOneTerm};
+ghost use Rattle.pp_row.specs.Reading.{tree_of, IsOneTerm};
 ghost use Rattle.pp_term.specs.Meanings.{predicate_of};
-ghost use Rattle.pp_term.specs.Columns.{trees_of};
+ghost use Rattle.pp_row.specs.Columns.{trees_of};
 ghost use Rattle.pp_read.specs.Pieces.{tree_at, HasTermAt, IsAtom, predicate_of_tree};
 
 use pp_parse::Part;

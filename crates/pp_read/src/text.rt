@@ -1,7 +1,7 @@
 //! Reads a text.
 ghost use Rattle.std.specs.Prelude.{◌≡◌, ◌≤◌, ◌<◌, ◌^◌, All, IfOk, IfErr, IsTrue, length, count_by};
 ghost use Rattle.pp_algebra.specs.Canon.{has};
-ghost use Rattle.pp_language.specs.Texts.{same_text};
+ghost use Rattle.pp_algebra.specs.Texts.{same_text};
 ghost use Rattle.pp_language.specs.Tokens.{IsTokenOf};
 ghost use Rattle.pp_language.specs.Limits.{Writes};
 ghost use Rattle.pp_term.specs.WellFormed.{IsClause, IsQuery};

@@ -13,11 +13,11 @@ use Rattle.pp_algebra.proofs.Antisym.{put_all-agree}
 use Rattle.pp_algebra.proofs.Solving.{below_or, for_some, none_for_any}
 use Rattle.pp_algebra.proofs.Resume.{beyond}
 use Rattle.pp_sld.specs.Ways.{old, new, two_domains}
-use Rattle.pp_sld.specs.Leaves.{variables_from, call}
-use Rattle.pp_term.specs.Columns.{trees_of}
+use Rattle.pp_algebra.specs.Numbered.{variables_from, call, column, counted_from}
+use Rattle.pp_row.specs.Columns.{trees_of}
 use Rattle.pp_term.specs.WellFormed.{AreBelow, IsClause}
 use Rattle.pp_term.specs.declared.clause.Clause.{Clause}
-use Rattle.pp_unify.specs.States.{column, value_in, counted_from, row_in, IsOver}
+use Rattle.pp_unify.specs.States.{value_in, row_in, IsOver}
 use Rattle.pp_unify.specs.Laws.{item_in, IsItemOver, AreSolved, OneHasNone}
 use Rattle.pp_unify.proofs.Turns.{solved_in_turn}
 use Rattle.pp_unify.proofs.Among.{comes_from}

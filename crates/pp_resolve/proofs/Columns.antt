@@ -6,7 +6,8 @@ use Rattle.pp_algebra.specs.Terms.{Tree, count}
 use Rattle.pp_algebra.specs.Rows.{Row}
 use Rattle.pp_algebra.specs.Solve.{Item, equation}
 use Rattle.pp_algebra.proofs.Put.{count-put_all}
-use Rattle.pp_unify.specs.States.{counted_from, IsOver, IsLonger, IsSolvedBy}
+use Rattle.pp_unify.specs.States.{IsOver, IsLonger, IsSolvedBy}
+use Rattle.pp_algebra.specs.Numbered.{counted_from}
 use Rattle.pp_unify.specs.Laws.{item_in, AreSolved, OneHasNone}
 use Rattle.pp_resolve.specs.Unifying.{column_equations}
 

@@ -7,7 +7,7 @@ use Rattle.pp_algebra.specs.Rows.{Row, IsCanonical, pattern_of}
 use Rattle.pp_algebra.specs.Covers.{IsIn}
 use Rattle.pp_algebra.specs.Joins.{AreWideAs, SameRows}
 use Rattle.pp_algebra.specs.Least.{rest, least_trees, least_row}
-use Rattle.pp_term.specs.Columns.{trees_of}
+use Rattle.pp_row.specs.Columns.{trees_of}
 use Rattle.pp_algebra.proofs.Put.{count-put_all}
 use Rattle.pp_algebra.proofs.Antisym.{IsIn-either}
 use Rattle.pp_algebra.proofs.Sets.{least_of_same, least_in_parts, least_is_idempotent}

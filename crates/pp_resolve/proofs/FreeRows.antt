@@ -2,16 +2,15 @@
 use Rattle.std.proofs.Common.{◌≡◌, ℕ, ℤ, zero, suc, ◌+◌, ◌<◌, List, [], ◌∷◌, ◌++◌, length, take, get_or, All, Option, None, refl, ap, sym, ◌∙◌, inl, inr, arith, subst, append_assoc, length-append}
 use Rattle.std.proofs.lemmas.List.{take_more, map-append}
 use Rattle.std.proofs.lemmas.List.Elements.{All-nil, All-cons, All-head, All-tail, All-append}
-use Rattle.pp_algebra.specs.Terms.{Tree, variable, more, none, count, put_all, variables_all}
+use Rattle.pp_algebra.specs.Terms.{Tree, variable, more, none, count, put_all, variables_all, join}
 use Rattle.pp_algebra.specs.Rows.{Domain, Row, IsNumbered, IsWide, IsRow, domain_at}
 use Rattle.pp_algebra.specs.Covers.{IsIn}
 use Rattle.pp_algebra.specs.Solve.{Item, equation, membership}
 use Rattle.pp_algebra.proofs.Put.{put-variable}
 use Rattle.pp_algebra.proofs.Antisym.{put-agree}
-use Rattle.pp_sld.specs.Leaves.{variables_from}
-use Rattle.pp_term.specs.Reading.{join}
-use Rattle.pp_term.specs.Columns.{set_by, sets_of}
-use Rattle.pp_unify.specs.States.{column, value_in, in_place, IsOver, with_new}
+use Rattle.pp_algebra.specs.Numbered.{variables_from, column}
+use Rattle.pp_row.specs.Columns.{set_by, sets_of}
+use Rattle.pp_unify.specs.States.{value_in, in_place, IsOver, with_new}
 use Rattle.pp_unify.specs.Laws.{item_in, IsItemOver}
 use Rattle.pp_resolve.specs.Unifying.{any_domains, free_row}
 

@@ -10,9 +10,9 @@ use Rattle.pp_algebra.proofs.Put.{put-put}
 use Rattle.pp_algebra.proofs.Order.{IsIn-left, IsIn-right}
 use Rattle.pp_algebra.proofs.Antisym.{put-agree}
 use Rattle.pp_sld.specs.Ways.{old, new}
-use Rattle.pp_term.specs.Columns.{trees_of}
+use Rattle.pp_row.specs.Columns.{trees_of}
 use Rattle.pp_term.specs.WellFormed.{AreBelow}
-use Rattle.pp_unify.specs.States.{counted_from}
+use Rattle.pp_algebra.specs.Numbered.{counted_from}
 use Rattle.pp_resolve.specs.Unifying.{column_equations}
 
 pub below_head : (n : ℕ) (t : Tree ℕ) (ts : List (Tree ℕ)) → AreBelow n (t ∷ ts) → (v : ℕ) → IsIn v (variables t) → v < n

@@ -15,10 +15,11 @@ use Rattle.pp_sld.specs.Goals.{user, Config, same_predicate}
 use Rattle.pp_sld.specs.Ways.{Way, old, clause_way, Leads, finished, next}
 use Rattle.pp_sld.specs.Trees.{answer, choice, Searches, no_more, child, failed, AreSearches}
 use Rattle.pp_sld.specs.Trace.{leaves_all}
-use Rattle.pp_sld.specs.Leaves.{variables_from, root, leaf_row, answer_rows, loose_rows, HasLeaves}
+use Rattle.pp_sld.specs.Leaves.{root, leaf_row, answer_rows, loose_rows, HasLeaves}
+use Rattle.pp_algebra.specs.Numbered.{variables_from}
 use Rattle.pp_term.specs.declared.pred.Pred.{Pred}
 use Rattle.pp_term.specs.declared.clause.Clause.{Clause}
-use Rattle.pp_term.specs.Columns.{trees_of}
+use Rattle.pp_row.specs.Columns.{trees_of}
 use Rattle.pp_term.specs.Meanings.{predicate_of, goal_of, program}
 use Rattle.pp_resolve.specs.Facts.{HasNoBody, HaveWidth}
 use Rattle.pp_resolve.specs.Matching.{called, IsAnswer, HasNoAnswer}

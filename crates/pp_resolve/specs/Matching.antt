@@ -4,9 +4,9 @@ use Rattle.pp_algebra.specs.Terms.{put_all}
 use Rattle.pp_algebra.specs.Rows.{Pattern, Row}
 use Rattle.pp_algebra.specs.Solve.{Item, equations, IsSolved, HasNone}
 use Rattle.pp_sld.specs.Ways.{old, new, two_domains}
-use Rattle.pp_sld.specs.Leaves.{variables_from}
+use Rattle.pp_algebra.specs.Numbered.{variables_from}
 use Rattle.pp_term.specs.declared.clause.Clause.{Clause}
-use Rattle.pp_term.specs.Columns.{trees_of}
+use Rattle.pp_row.specs.Columns.{trees_of}
 
 -- the face's distinct variables, beside which stand those of the fact
 abbrev pub called : Row → Pattern (ℕ ⊎ ℕ)

@@ -3,9 +3,8 @@ use Rattle.std.specs.Prelude.{◌≡◌, ℕ, zero, suc, Bool, true, false, List
 use Rattle.pp_algebra.specs.Terms.{Tree}
 use Rattle.pp_algebra.specs.Rows.{Domain, Row}
 use Rattle.pp_algebra.specs.Solve.{Item, equations}
-use Rattle.pp_sld.specs.Leaves.{variables_from}
-use Rattle.pp_term.specs.Columns.{trees_of}
-use Rattle.pp_unify.specs.States.{counted_from}
+use Rattle.pp_algebra.specs.Numbered.{variables_from, counted_from}
+use Rattle.pp_row.specs.Columns.{trees_of}
 use Rattle.pp_unify.specs.Laws.{AreSolved, OneHasNone}
 
 -- this many domains, each `any`

@@ -3,11 +3,12 @@ ghost use Rattle.std.specs.Prelude.{◌≡◌, ℕ, ◌++◌, suc, [], All, IfOk
 ghost use Rattle.pp_algebra.specs.Rows.{AreWide};
 ghost use Rattle.pp_algebra.specs.Terms.{count};
 ghost use Rattle.pp_sld.specs.Goals.{user};
-ghost use Rattle.pp_sld.specs.Leaves.{HasLeaves, root, call as call_of};
-ghost use Rattle.pp_term.specs.Columns.{sets_of};
+ghost use Rattle.pp_sld.specs.Leaves.{HasLeaves, root};
+ghost use Rattle.pp_algebra.specs.Numbered.{call as call_of, counted_from};
+ghost use Rattle.pp_row.specs.Columns.{sets_of};
 ghost use Rattle.pp_term.specs.Meanings.{predicate_of, program};
 ghost use Rattle.pp_term.specs.WellFormed.{IsClause};
-ghost use Rattle.pp_unify.specs.States.{present, counted_from, IsLonger, IsOver};
+ghost use Rattle.pp_unify.specs.States.{present, IsLonger, IsOver};
 ghost use Rattle.pp_resolve.specs.Facts.{HasNoBody, HaveWidth};
 ghost use Rattle.pp_resolve.specs.Matching.{HasNoAnswer, IsAnswer};
 ghost use Rattle.pp_resolve.specs.Unifying.{any_domains, free_row, IsFree, column_equations, AreDecided};

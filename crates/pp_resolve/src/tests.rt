@@ -2,7 +2,7 @@
 ghost use Rattle.std.specs.Prelude.{◌≡◌, All, IfOk, length};
 ghost use Rattle.pp_algebra.specs.Rows.{IsWide};
 ghost use Rattle.pp_algebra.specs.Terms.{count};
-ghost use Rattle.pp_term.specs.Columns.{set_by};
+ghost use Rattle.pp_row.specs.Columns.{set_by};
 ghost use Rattle.pp_term.specs.WellFormed.{IsClause};
 ghost use Rattle.pp_resolve.specs.Facts.{HasNoBody, HaveWidth};
 

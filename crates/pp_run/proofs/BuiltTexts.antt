@@ -7,7 +7,7 @@ use Rattle.pp_sld.specs.Goals.{Predicate, Shape, user, equals, test}
 use Rattle.pp_sld.specs.Verdicts.{most}
 use Rattle.pp_language.specs.Programs.{QueryItem, infers}
 use Rattle.pp_propagation.specs.Replies.{IsFactual, IsBuilt}
-use Rattle.pp_term.specs.Columns.{trees_of}
+use Rattle.pp_row.specs.Columns.{trees_of}
 use Rattle.pp_term.specs.declared.pred.Pred.{Pred}
 use Rattle.pp_term.specs.declared.pred.Shape.TheVariants.{User, Plus, Times, Indomain}
 use Rattle.pp_term.specs.declared.pred.Mode.TheVariants.{Most, Unique, Consistent}
@@ -17,7 +17,8 @@ use Rattle.pp_term.specs.declared.query.Item.{Item}
 use Rattle.pp_term.specs.declared.query.Item.TheVariants.{Equate, Member, Infer}
 use Rattle.pp_term.specs.declared.query.Query.{Query}
 use Rattle.pp_term.specs.WellFormed.{AreBelow, IsItem, IsQuery}
-use Rattle.pp_term.specs.Meanings.{predicate_of, goal_of, clause_of, item_of}
+use Rattle.pp_term.specs.Meanings.{predicate_of, goal_of, clause_of}
+use Rattle.pp_read.specs.Meanings.{item_of}
 use Rattle.pp_resolve.specs.Facts.{HasNoBody}
 use Rattle.pp_read.specs.declared.program.Program.{Program}
 use Rattle.pp_read.specs.Programs.{written_of}

@@ -7,7 +7,7 @@ use Rattle.pp_algebra.specs.Rows.{Row}
 use Rattle.pp_algebra.specs.Solve.{IsSolved}
 use Rattle.pp_algebra.proofs.Put.{count-put_all}
 use Rattle.pp_sld.specs.Goals.{Predicate, Program}
-use Rattle.pp_sld.specs.Leaves.{variables_from}
+use Rattle.pp_algebra.specs.Numbered.{variables_from}
 use Rattle.pp_sld.specs.Verdicts.{Verdict, fail, same, narrow, HasVerdict}
 use Rattle.pp_language.specs.Texts.{Text}
 use Rattle.pp_propagation.specs.Stores.{Asked, face, apply}

@@ -7,7 +7,8 @@ use Rattle.pp_algebra.specs.Least.{least_row, least_list}
 use Rattle.pp_algebra.specs.Terms.{count}
 use Rattle.pp_algebra.proofs.Law.{count-covers, least_row-covers}
 use Rattle.pp_sld.specs.Goals.{Predicate, user, Program}
-use Rattle.pp_sld.specs.Leaves.{call, root, HasLeaves}
+use Rattle.pp_sld.specs.Leaves.{root, HasLeaves}
+use Rattle.pp_algebra.specs.Numbered.{call}
 use Rattle.pp_resolve.specs.Facts.{HaveWidth}
 use Rattle.pp_sld.specs.Verdicts.{Verdict, same, narrow, unfinished, most, verdict, HasVerdict}
 use Rattle.pp_algebra.proofs.SameRow.{same_row-sound, same_row-itself}

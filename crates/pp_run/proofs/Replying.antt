@@ -20,7 +20,8 @@ use Rattle.pp_propagation.specs.Replies.{status_of, answer_text, answer_of, run_
 use Rattle.pp_term.specs.declared.clause.Clause.{Clause}
 use Rattle.pp_term.specs.declared.pred.Pred.{Pred}
 use Rattle.pp_term.specs.declared.query.Item.{Item}
-use Rattle.pp_term.specs.Meanings.{predicate_of, item_of, program}
+use Rattle.pp_term.specs.Meanings.{predicate_of, program}
+use Rattle.pp_read.specs.Meanings.{item_of}
 use Rattle.pp_resolve.specs.Facts.{HasNoBody}
 use Rattle.pp_read.specs.declared.program.Program.{Program}
 use Rattle.pp_read.specs.Programs.{written_of}

@@ -15,12 +15,12 @@ use Rattle.pp_algebra.proofs.Order.{covers_through, may_stay, IsIn-left, IsIn-ri
 use Rattle.pp_algebra.proofs.Antisym.{put-agree, put_all-agree, IsIn-either, covers_antisymmetric}
 use Rattle.pp_algebra.proofs.CanonLemmas.{IsSame, nat_eq-IsSame, canon-IsCanonical, canon-covers, covers-canon}
 use Rattle.pp_sld.specs.Goals.{Goal, equals}
-use Rattle.pp_sld.specs.Leaves.{variables_from}
-use Rattle.pp_propagation.specs.Stores.{column, arguments_under, face, face_variables, either_domains, same_either, replaced_by, apply}
+use Rattle.pp_algebra.specs.Numbered.{variables_from, column}
+use Rattle.pp_propagation.specs.Stores.{arguments_under, face, face_variables, either_domains, same_either, replaced_by, apply}
 use Rattle.pp_propagation.proofs.StoreRows.{same_either-IsSame}
-use Rattle.pp_term.specs.Columns.{trees_of, sets_of, pattern_by}
-use Rattle.pp_term.specs.Substitution.{term_at}
-use Rattle.pp_term.proofs.Numbering.{firsts-append}
+use Rattle.pp_row.specs.Columns.{trees_of, sets_of, pattern_by}
+use Rattle.pp_row.specs.Substitution.{term_at}
+use Rattle.pp_row.proofs.Numbering.{firsts-append}
 use Rattle.pp_run.specs.RunStores.{replacement, below}
 
 comes_from : {V W : Type 0} (f : V → List W) (vs : List V) (w : W) → IsIn w (flat_map f vs) → (v : V) × IsIn v vs × IsIn w (f v)

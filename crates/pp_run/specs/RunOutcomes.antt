@@ -3,14 +3,14 @@ use Rattle.std.specs.Prelude.{◌≡◌, ℕ, List, [], ◌∷◌, length, None}
 use Rattle.pp_algebra.specs.Terms.{Tree, count}
 use Rattle.pp_algebra.specs.Rows.{Pattern, Row}
 use Rattle.pp_sld.specs.Goals.{Predicate, user, Program}
-use Rattle.pp_sld.specs.Leaves.{variables_from}
+use Rattle.pp_algebra.specs.Numbered.{variables_from}
 use Rattle.pp_sld.specs.Verdicts.{most, Verdict, fail, same, narrow, HasVerdict}
 use Rattle.pp_language.specs.Texts.{Text}
 use Rattle.pp_language.specs.Programs.{Query, infers}
 use Rattle.pp_propagation.specs.Stores.{Asked, goals_of}
 use Rattle.pp_propagation.specs.Histories.{unfinished_goals}
 use Rattle.pp_propagation.specs.Runs.{End, yes, no, stopped, Run, IsRun}
-use Rattle.pp_term.specs.Columns.{trees_of}
+use Rattle.pp_row.specs.Columns.{trees_of}
 use Rattle.pp_run.specs.declared.run.End.{End as Ending}
 use Rattle.pp_run.specs.declared.run.End.TheVariants.{Yes, No, Stopped}
 use Rattle.pp_run.specs.declared.run.Verdict.{Verdict as Found}

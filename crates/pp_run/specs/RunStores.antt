@@ -4,8 +4,9 @@ use Rattle.pp_algebra.specs.Terms.{Tree, variable, Trees, put, count}
 use Rattle.pp_algebra.specs.Rows.{Row}
 use Rattle.pp_algebra.specs.Canon.{has, place}
 use Rattle.pp_sld.specs.Goals.{Goal}
-use Rattle.pp_propagation.specs.Stores.{column, face_variables}
-use Rattle.pp_term.specs.Columns.{trees_of}
+use Rattle.pp_propagation.specs.Stores.{face_variables}
+use Rattle.pp_algebra.specs.Numbered.{column}
+use Rattle.pp_row.specs.Columns.{trees_of}
 
 -- whatever is asked of these arguments
 abbrev pub OfGoal : List (Tree ℕ) → (Goal ℕ → Type 0) → Type 0

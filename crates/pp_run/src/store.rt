@@ -4,12 +4,12 @@ ghost use Rattle.pp_algebra.specs.Canon.{firsts};
 ghost use Rattle.pp_algebra.specs.Covers.{IsIn};
 ghost use Rattle.pp_algebra.specs.Solve.{IsSolved};
 ghost use Rattle.pp_algebra.specs.Terms.{put, count, variables, variables_all};
-ghost use Rattle.pp_sld.specs.Leaves.{variables_from};
-ghost use Rattle.pp_propagation.specs.Stores.{column, face, apply, face_variables};
-ghost use Rattle.pp_term.specs.Cells.{variables_in};
-ghost use Rattle.pp_term.specs.Columns.{trees_of};
-ghost use Rattle.pp_term.specs.Substitution.{term_at};
-ghost use Rattle.pp_term.proofs.Renaming.{variables_among};
+ghost use Rattle.pp_algebra.specs.Numbered.{variables_from, column};
+ghost use Rattle.pp_propagation.specs.Stores.{face, apply, face_variables};
+ghost use Rattle.pp_row.specs.Cells.{variables_in};
+ghost use Rattle.pp_row.specs.Columns.{trees_of};
+ghost use Rattle.pp_row.specs.Substitution.{term_at};
+ghost use Rattle.pp_row.specs.Cells.{variables_among};
 ghost use Rattle.pp_term.specs.WellFormed.{AreBelow};
 ghost use Rattle.pp_run.specs.RunStores.{OfGoal, IsWideEnough, replacement, below};
 

@@ -3,8 +3,7 @@ use Rattle.std.proofs.Common.{◌≡◌, ℕ, zero, suc, ◌+◌, List, [], ◌�
 use Rattle.std.specs.Prelude.{nat_eq}
 use Rattle.pp_algebra.specs.Terms.{count, variables_all}
 use Rattle.pp_algebra.specs.Rows.{Row, IsCanonical, IsNumbered, pattern_of}
-use Rattle.pp_algebra.specs.Covers.{Covers}
-use Rattle.pp_algebra.specs.Laws.{RowCovers}
+use Rattle.pp_algebra.specs.Covers.{Covers, RowCovers}
 use Rattle.pp_algebra.proofs.Order.{covers_through}
 use Rattle.pp_algebra.proofs.CanonLemmas.{nat_eq-IsSame, canon-IsCanonical, canon-covers, covers-canon}
 use Rattle.pp_algebra.proofs.Law.{count-covers}
@@ -12,7 +11,8 @@ use Rattle.pp_sld.specs.Goals.{Program, Config}
 use Rattle.pp_sld.specs.Ways.{Way}
 use Rattle.pp_sld.specs.Trees.{Search, answer, loose, refused, passed, choice, Searches, no_more, child, failed, IsSearch, AreSearches}
 use Rattle.pp_sld.specs.Trace.{Leaf, answers_with, loose_with, leaves, leaves_all}
-use Rattle.pp_sld.specs.Leaves.{variables_from, call, root, leaf_row, row_at}
+use Rattle.pp_sld.specs.Leaves.{root, leaf_row, row_at}
+use Rattle.pp_algebra.specs.Numbered.{variables_from, call}
 use Rattle.pp_sld.specs.Laws.{LeafRowCovers, CallCoversLeaves, LeavesHaveWidth}
 use Rattle.pp_sld.proofs.LeafRows.{EachLeaf, each-row, each-child}
 use Rattle.pp_sld.proofs.Covered.{columns_of, leads-covers, AllOf as AllOfConfig, NextOf, next-of}

@@ -2,16 +2,16 @@
 use Rattle.std.proofs.Common.{◌≡◌, Bool, true, false, cond, List, [], ◌∷◌, ◌++◌, Some, refl, ap, sym, ◌∙◌, subst, inl, inr}
 use Rattle.pp_algebra.specs.Terms.{count}
 use Rattle.pp_algebra.specs.Rows.{Row, IsCanonical, pattern_of}
-use Rattle.pp_algebra.specs.Covers.{IsIn}
+use Rattle.pp_algebra.specs.Covers.{IsIn, RowCovers}
 use Rattle.pp_algebra.specs.Canon.{same_row}
 use Rattle.pp_algebra.specs.Least.{least_row}
-use Rattle.pp_algebra.specs.Laws.{RowCovers}
 use Rattle.pp_algebra.proofs.Order.{covers_through, IsIn-left, IsIn-right}
 use Rattle.pp_algebra.proofs.Antisym.{covers_antisymmetric, IsIn-either}
 use Rattle.pp_algebra.proofs.Law.{count-covers, least_row-IsCanonical, least_row-covers, least_row-least}
 use Rattle.pp_algebra.proofs.SameRow.{same_row-sound, same_row-itself}
 use Rattle.pp_sld.specs.Trace.{leaves}
-use Rattle.pp_sld.specs.Leaves.{call, root, answer_rows, loose_rows}
+use Rattle.pp_sld.specs.Leaves.{root, answer_rows, loose_rows}
+use Rattle.pp_algebra.specs.Numbered.{call}
 use Rattle.pp_sld.specs.Verdicts.{Mode, most, unique, consistent, same, nothing, unfinished, narrow, some_row, another, verdict, verdict_most, HasVerdict}
 use Rattle.pp_sld.specs.Laws.{GrownKeepsVerdict, Deepens}
 use Rattle.pp_sld.proofs.Verdicts.{another-none, none-another}

@@ -2,9 +2,8 @@
 use Rattle.std.proofs.Common.{◌≡◌, Bool, true, false, List, [], ◌∷◌, ◌++◌, Option, Some, None, refl, ap, sym, ◌∙◌, inl, inr, pos}
 use Rattle.pp_algebra.specs.Terms.{count, int, none, more}
 use Rattle.pp_algebra.specs.Rows.{Row, pattern_of}
-use Rattle.pp_algebra.specs.Covers.{IsIn}
+use Rattle.pp_algebra.specs.Covers.{IsIn, RowCovers}
 use Rattle.pp_algebra.specs.Joins.{AllOf}
-use Rattle.pp_algebra.specs.Laws.{RowCovers}
 use Rattle.pp_algebra.specs.Least.{least_row, least_list}
 use Rattle.pp_algebra.proofs.Order.{covers_itself, IsIn-left, IsIn-right}
 use Rattle.pp_algebra.proofs.Antisym.{covers_antisymmetric}

@@ -4,7 +4,7 @@ use Rattle.pp_algebra.specs.Terms.{count}
 use Rattle.pp_algebra.specs.Rows.{Row, IsCanonical, pattern_of}
 use Rattle.pp_algebra.specs.Canon.{same_row}
 use Rattle.pp_algebra.specs.Least.{least_row}
-use Rattle.pp_algebra.specs.Laws.{RowCovers}
+use Rattle.pp_algebra.specs.Covers.{RowCovers}
 use Rattle.pp_algebra.specs.Joins.{AllOf}
 use Rattle.pp_algebra.proofs.Order.{covers_through}
 use Rattle.pp_algebra.proofs.Antisym.{covers_antisymmetric}

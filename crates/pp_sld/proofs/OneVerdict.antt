@@ -4,7 +4,8 @@ use Rattle.pp_algebra.specs.Rows.{Row}
 use Rattle.pp_sld.specs.Goals.{Shape, Program, Config}
 use Rattle.pp_sld.specs.Trace.{leaves}
 use Rattle.pp_sld.specs.Trees.{Search, IsSearch}
-use Rattle.pp_sld.specs.Leaves.{call, root, answer_rows, loose_rows, HasLeaves}
+use Rattle.pp_sld.specs.Leaves.{root, answer_rows, loose_rows, HasLeaves}
+use Rattle.pp_algebra.specs.Numbered.{call}
 use Rattle.pp_sld.specs.Verdicts.{Mode, Verdict, verdict, HasVerdict}
 use Rattle.pp_sld.specs.Laws.{HasOneListOfLeaves, HasOneVerdict}
 use Rattle.pp_sld.proofs.Once.{once}

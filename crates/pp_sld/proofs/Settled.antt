@@ -1,10 +1,9 @@
 -- A settled finding stays settled, with its outcome.
 use Rattle.std.proofs.Common.{◌≡◌, Bool, true, cond, ◌||◌, List, [], ◌∷◌, ◌++◌, Some, None, Option, refl, ap, sym, ◌∙◌, subst, inl, inr}
 use Rattle.pp_algebra.specs.Rows.{Row, IsCanonical, pattern_of}
-use Rattle.pp_algebra.specs.Covers.{IsIn}
+use Rattle.pp_algebra.specs.Covers.{IsIn, RowCovers}
 use Rattle.pp_algebra.specs.Canon.{same_row}
 use Rattle.pp_algebra.specs.Least.{least_row, least_list}
-use Rattle.pp_algebra.specs.Laws.{RowCovers}
 use Rattle.pp_algebra.proofs.Order.{covers_itself}
 use Rattle.pp_algebra.proofs.Antisym.{covers_antisymmetric}
 use Rattle.pp_algebra.proofs.Law.{least_row-IsCanonical, least_row-covers, least_row-least}

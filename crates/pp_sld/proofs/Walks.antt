@@ -4,7 +4,8 @@ use Rattle.pp_algebra.specs.Rows.{Row}
 use Rattle.pp_sld.specs.Goals.{Program, Shape}
 use Rattle.pp_sld.specs.Trees.{Search, IsSearch}
 use Rattle.pp_sld.specs.Trace.{Leaf, answers_with, loose_with, Mark, tried, ends, trace, met, reductions, until, leaves}
-use Rattle.pp_sld.specs.Leaves.{call, root, answer_rows, loose_rows}
+use Rattle.pp_sld.specs.Leaves.{root, answer_rows, loose_rows}
+use Rattle.pp_algebra.specs.Numbered.{call}
 use Rattle.pp_sld.specs.Works.{worth}
 use Rattle.pp_sld.specs.Verdicts.{Mode, verdict}
 use Rattle.pp_sld.specs.Findings.{finding_of, outcome, settled}

@@ -1,26 +1,17 @@
 -- The built-ins on integers: when each waits, holds, fails, binds a value or splits into values.
 use Rattle.std.specs.Prelude.{ℕ, ℤ, pos, negsuc, ◌+ℤ◌, ◌-ℤ◌, ◌*ℤ◌, Bool, true, false, cond, not, ◌&&◌, ◌||◌, int_lt, int_le, List, [], ◌∷◌}
 use Rattle.std.specs.Ordering.{int_eq}
+use Rattle.pp_algebra.specs.Givens.{Given, integer, ranged, free, other}
+use Rattle.pp_algebra.specs.Members.{least_integer, greatest_integer}
 
 pub data Test : Type 0 where
   less at_most equal differ plus times indomain : Test
-
--- an argument as a built-in sees it: an integer, a variable with a finite domain, one of domain `any`, or an atom or compound
-pub data Given : Type 0 where
-  integer : ℤ → Given
-  ranged free other : Given
 
 pub data Decision : Type 0 where
   wait fail hold split : Decision
   bind : ℕ → ℤ → Decision
 
--- the integers of the language
-abbrev pub least_integer : ℤ
-least_integer = negsuc 999999999999
-
-abbrev pub greatest_integer : ℤ
-greatest_integer = pos 1000000000000
-
+-- one of the integers of the language
 abbrev pub is_integer : ℤ → Bool
 is_integer n = int_le least_integer n && int_le n greatest_integer
 

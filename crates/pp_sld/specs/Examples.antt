@@ -3,7 +3,8 @@ use Rattle.std.specs.Prelude.{◌≡◌, ℕ, pos, List, [], ◌∷◌, Some, No
 use Rattle.pp_algebra.specs.Terms.{variable}
 use Rattle.pp_algebra.specs.Rows.{Row}
 use Rattle.pp_algebra.specs.Examples.{number, atom_a, one_column, row, one_or_two}
-use Rattle.pp_sld.specs.BuiltIns.{Test, less, equal, plus, times, indomain, Given, integer, ranged, free, other, wait, fail, hold, split, bind, decide}
+use Rattle.pp_sld.specs.BuiltIns.{Test, less, equal, plus, times, indomain, wait, fail, hold, split, bind, decide}
+use Rattle.pp_algebra.specs.Givens.{Given, integer, ranged, free, other}
 use Rattle.pp_sld.specs.Verdicts as verdicts
 use Rattle.pp_sld.specs.Verdicts.{Mode, most, unique, consistent, same, nothing, unfinished, narrow, verdict}
 

@@ -1,8 +1,7 @@
 -- Deepening: what more depth may change of the answers and loose ends of a search.
 use Rattle.std.specs.Prelude.{ℕ, ◌⊎◌, List}
 use Rattle.pp_algebra.specs.Rows.{Row}
-use Rattle.pp_algebra.specs.Covers.{IsIn}
-use Rattle.pp_algebra.specs.Laws.{RowCovers}
+use Rattle.pp_algebra.specs.Covers.{IsIn, RowCovers}
 use Rattle.pp_sld.specs.Goals.{Config}
 
 -- the configuration with this depth left

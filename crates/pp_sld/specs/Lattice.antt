@@ -1,8 +1,7 @@
 -- Findings as a lattice: which findings are those of a mode and a call, and which lies below which.
 use Rattle.std.specs.Prelude.{◌≡◌, List, [], ◌∷◌, Option, Some, None}
 use Rattle.pp_algebra.specs.Rows.{Row, IsCanonical}
-use Rattle.pp_algebra.specs.Covers.{IsIn}
-use Rattle.pp_algebra.specs.Laws.{RowCovers}
+use Rattle.pp_algebra.specs.Covers.{IsIn, RowCovers}
 use Rattle.pp_sld.specs.Trace.{Leaf}
 use Rattle.pp_sld.specs.Leaves.{row_at}
 use Rattle.pp_sld.specs.Verdicts.{Mode, most, unique, consistent}

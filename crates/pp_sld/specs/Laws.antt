@@ -1,14 +1,14 @@
 -- The laws of search, as statements.
 use Rattle.std.specs.Prelude.{◌≡◌, ℕ, ◌≤◌, length, List, [], ◌++◌}
 use Rattle.pp_algebra.specs.Rows.{Row, IsCanonical, AreWide, IsRow}
-use Rattle.pp_algebra.specs.Covers.{IsIn}
+use Rattle.pp_algebra.specs.Covers.{IsIn, RowCovers}
 use Rattle.pp_algebra.specs.Joins.{AllOf}
-use Rattle.pp_algebra.specs.Laws.{RowCovers}
 use Rattle.pp_sld.specs.Goals.{Shape, Program, Config}
 use Rattle.pp_sld.specs.Ways.{Way, Leads}
 use Rattle.pp_sld.specs.Trees.{Search, answer, loose, IsSearch}
 use Rattle.pp_sld.specs.Trace.{trace, met, reductions, until, leaves}
-use Rattle.pp_sld.specs.Leaves.{call, root, leaf_row, answer_rows, loose_rows, HasLeaves}
+use Rattle.pp_sld.specs.Leaves.{root, leaf_row, answer_rows, loose_rows, HasLeaves}
+use Rattle.pp_algebra.specs.Numbered.{call}
 use Rattle.pp_sld.specs.Verdicts.{Mode, Verdict, unfinished, verdict, HasVerdict}
 use Rattle.pp_sld.specs.Findings.{finding_of, outcome}
 use Rattle.pp_sld.specs.Lattice.{RowsUnder, LeavesUnder, Fits}

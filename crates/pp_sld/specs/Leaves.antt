@@ -1,20 +1,11 @@
--- The search of one goal: its root, its call, and the rows of its answers and loose ends.
+-- The search of one goal: its root, and the rows of its answers and loose ends.
 use Rattle.std.specs.Prelude.{◌≡◌, ℕ, zero, suc, nat_eq, List, [], ◌∷◌, map, length}
-use Rattle.pp_algebra.specs.Terms.{variable, Trees, none, more}
 use Rattle.pp_algebra.specs.Rows.{Row, domain_at}
+use Rattle.pp_algebra.specs.Numbered.{variables_from}
 use Rattle.pp_algebra.specs.Canon.{canon}
 use Rattle.pp_sld.specs.Goals.{Shape, Program, Config}
 use Rattle.pp_sld.specs.Trees.{Search, IsSearch}
 use Rattle.pp_sld.specs.Trace.{Leaf, answers_with, loose_with, leaves, answers, loose_ends}
-
--- the variables from `first` on, `n` of them
-abbrev pub variables_from : ℕ → ℕ → Trees ℕ
-variables_from first zero = none
-variables_from first (suc n) = more (variable first) (variables_from (suc first) n)
-
--- the row of a face's distinct variables, with their domains
-abbrev pub call : Row → Row
-call face = record { columns = variables_from 0 (length face.domains); domains = face.domains }
 
 -- one goal under its face: nothing is done yet, and the columns are the call's
 abbrev pub root : Shape → Row → ℕ → Config

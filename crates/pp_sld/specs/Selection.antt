@@ -3,21 +3,9 @@ use Rattle.std.specs.Prelude.{ℕ, ℤ, zero, suc, List, [], ◌∷◌, Option, 
 use Rattle.pp_algebra.specs.Terms.{Tree, int, node, variable, Trees, none, more}
 use Rattle.pp_algebra.specs.Rows.{Domain, domain_at}
 use Rattle.pp_algebra.specs.Solve.{Item, equation, membership}
-use Rattle.pp_sld.specs.BuiltIns.{Given, integer, ranged, free, other, Decision, wait, fail, hold, split, bind, decide}
+use Rattle.pp_sld.specs.BuiltIns.{Decision, wait, fail, hold, split, bind, decide}
+use Rattle.pp_algebra.specs.Givens.{givens}
 use Rattle.pp_sld.specs.Goals.{Predicate, Shape, user, equals, member, test, Goal}
-
-abbrev pub given_of : Option Domain → Given
-given_of None = free
-given_of (Some d) = ranged
-
-abbrev pub given : List (Option Domain) → Tree ℕ → Given
-given ds (int n) = integer n
-given ds (node f ts) = other
-given ds (variable v) = given_of (domain_at ds v)
-
-abbrev pub givens : List (Option Domain) → Trees ℕ → List Given
-givens ds none = []
-givens ds (more t ts) = given ds t ∷ givens ds ts
 
 -- what is done with a goal that doesn't wait
 pub data Act : Type 0 where

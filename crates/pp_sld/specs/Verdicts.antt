@@ -4,7 +4,8 @@ use Rattle.pp_algebra.specs.Rows.{Row}
 use Rattle.pp_algebra.specs.Canon.{same_row}
 use Rattle.pp_algebra.specs.Least.{least_list}
 use Rattle.pp_sld.specs.Goals.{Shape, Program}
-use Rattle.pp_sld.specs.Leaves.{call, root, HasLeaves}
+use Rattle.pp_sld.specs.Leaves.{root, HasLeaves}
+use Rattle.pp_algebra.specs.Numbered.{call}
 
 pub data Mode : Type 0 where
   most unique consistent : Mode

@@ -1,14 +1,10 @@
--- What the plain values stand for in the definitions of search and of a text.
+-- What the plain values stand for in the definitions of search.
 use Rattle.std.specs.Prelude.{ℕ, ℤ, List, [], ◌∷◌, map, Option, Some, None}
 use Rattle.std.specs.FinSet as set
 use Rattle.pp_algebra.specs.Rows.{Domain}
-use Rattle.pp_algebra.specs.Solve.{equation, membership}
 use Rattle.pp_sld.specs.BuiltIns as builtins
 use Rattle.pp_sld.specs.Goals as goals
 use Rattle.pp_sld.specs.Verdicts as verdicts
-use Rattle.pp_language.specs.Texts.{Text}
-use Rattle.pp_language.specs.Printing.{name_at}
-use Rattle.pp_language.specs.Programs as programs
 use Rattle.pp_domain.specs.Sets.{set_of}
 use Rattle.pp_term.specs.declared.pred.Pred.{Pred}
 use Rattle.pp_term.specs.declared.pred.Shape.{Shape}
@@ -17,15 +13,10 @@ use Rattle.pp_term.specs.declared.pred.Relation.{Relation}
 use Rattle.pp_term.specs.declared.pred.Relation.TheVariants.{Less, AtMost, Equal, Differ}
 use Rattle.pp_term.specs.declared.pred.Mode.{Mode}
 use Rattle.pp_term.specs.declared.pred.Mode.TheVariants.{Most, Unique, Consistent}
-use Rattle.pp_term.specs.declared.pred.Given.{Given}
-use Rattle.pp_term.specs.declared.pred.Given.TheVariants as kinds
 use Rattle.pp_term.specs.declared.clause.Goal.{Goal}
 use Rattle.pp_term.specs.declared.clause.Goal.TheVariants.{Call, Equate, Member, Compare}
 use Rattle.pp_term.specs.declared.clause.Clause.{Clause}
-use Rattle.pp_term.specs.declared.query.Item.{Item}
-use Rattle.pp_term.specs.declared.query.Item.TheVariants as items
-use Rattle.pp_term.specs.declared.query.Query.{Query}
-use Rattle.pp_term.specs.Columns.{trees_of}
+use Rattle.pp_row.specs.Columns.{trees_of}
 
 abbrev pub predicate_of : Pred → goals.Predicate
 predicate_of p = record { name = p.name; arity = p.arity }
@@ -65,18 +56,3 @@ abbrev pub mode_of : Mode → verdicts.Mode
 mode_of Most = verdicts.most
 mode_of Unique = verdicts.unique
 mode_of Consistent = verdicts.consistent
-
-abbrev pub item_of : Item → programs.QueryItem
-item_of (items.Equate a b) = programs.solves (equation a b)
-item_of (items.Member t d) = programs.solves (membership t (members_by d))
-item_of (items.Infer s ts m) = programs.infers (record { shape = shape_of s; arguments = trees_of ts }) (mode_of m)
-
--- over these names
-abbrev pub query_of : List Text → Query → programs.Query
-query_of names q = record { variables = q.vars; named = map (name_at names) q.named; items = map item_of q.items }
-
-abbrev pub given_of : Given → builtins.Given
-given_of (kinds.Int n) = builtins.integer n
-given_of kinds.Ranged = builtins.ranged
-given_of kinds.Free = builtins.free
-given_of kinds.Other = builtins.other

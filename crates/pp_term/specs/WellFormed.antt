@@ -10,7 +10,7 @@ use Rattle.pp_term.specs.declared.clause.Clause.{Clause}
 use Rattle.pp_term.specs.declared.query.Item.{Item}
 use Rattle.pp_term.specs.declared.query.Item.TheVariants as items
 use Rattle.pp_term.specs.declared.query.Query.{Query}
-use Rattle.pp_term.specs.Columns.{trees_of}
+use Rattle.pp_row.specs.Columns.{trees_of}
 
 -- all variables lie below this number
 abbrev pub AreBelow : ℕ → List (Tree ℕ) → Type 0

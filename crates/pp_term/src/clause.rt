@@ -1,9 +1,9 @@
 //! Goals and clauses.
 ghost use Rattle.std.specs.Prelude.{◌≡◌, IfOk};
 
-use crate::domains::copy_domain;
 use crate::{Goals, Pred, Relation, Shape, Term, Terms};
 use pp_domain::Domain;
+use pp_row::copy_domain;
 use std::alloc::AllocError;
 
 /// A goal of a clause's body. `None` in a membership is the empty set.

@@ -16,7 +16,7 @@ impl Model for Goals {
     ghost use Rattle.std.specs.Coded.{codes};
     ghost use Rattle.pp_term.specs.declared.clause.Goal.{Goal};
     ghost use Rattle.pp_term.specs.contracts.clause.Goal as goal;
-    ghost use Rattle.pp_term.specs.Codes.{tree_code};
+    ghost use Rattle.pp_row.specs.Codes.{tree_code};
 
     ghost Value = { List Goal };
 
@@ -70,7 +70,7 @@ impl Model for Items {
     ghost use Rattle.std.specs.Coded.{codes};
     ghost use Rattle.pp_term.specs.declared.query.Item.{Item};
     ghost use Rattle.pp_term.specs.contracts.query.Item as item;
-    ghost use Rattle.pp_term.specs.Codes.{tree_code};
+    ghost use Rattle.pp_row.specs.Codes.{tree_code};
 
     ghost Value = { List Item };
 

@@ -1,7 +1,7 @@
 //! Names.
 ghost use Rattle.std.specs.Prelude.{◌≡◌, ◌<◌, IfOk, OnErr, MatchOption, IsTrue, false, length, slice_index_or, [], ◌∷◌};
 ghost use Rattle.pp_algebra.specs.Canon.{firsts, has, place, Distinct};
-ghost use Rattle.pp_term.specs.Texts.{same_text};
+ghost use Rattle.pp_algebra.specs.Texts.{same_text};
 
 use indexmap::IndexSet;
 use std::alloc::{AllocError, Global};
@@ -17,7 +17,7 @@ pub struct Names {
 impl Model for Names {
     ghost use Rattle.std.specs.Prelude.{◌≤◌, ◌^◌, ℕ, List, map, length};
     ghost use Rattle.pp_algebra.specs.Canon.{Distinct};
-    ghost use Rattle.pp_term.specs.Texts.{same_text};
+    ghost use Rattle.pp_algebra.specs.Texts.{same_text};
 
     ghost Value = { List (List ℕ) };
 

@@ -1,9 +1,9 @@
 //! Queries.
 ghost use Rattle.std.specs.Prelude.{◌≡◌, IfOk};
 
-use crate::domains::copy_domain;
 use crate::{Items, Mode, Numbers, Shape, Term, Terms};
 use pp_domain::Domain;
+use pp_row::copy_domain;
 use std::alloc::AllocError;
 
 /// An item of a query: it is solved before the run, or it is an annotated goal.

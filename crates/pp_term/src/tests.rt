@@ -1,7 +1,7 @@
 //! The happy paths, the limits of a term, and a deep term.
 ghost use Rattle.std.specs.Prelude.{◌≡◌, IfOk};
 ghost use Rattle.pp_algebra.specs.Rows.{IsWide, AreWide};
-ghost use Rattle.pp_term.specs.Columns.{set_by, sets_of};
+ghost use Rattle.pp_row.specs.Columns.{set_by, sets_of};
 
 use crate::{
     Cell, Clause, Goal, Goals, Item, Items, Mode, Names, Numbers, Pred, Query, Row, Shape, Term,

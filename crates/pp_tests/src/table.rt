@@ -4,7 +4,7 @@ ghost use Rattle.std.specs.Ordering.{int_eq};
 ghost use Rattle.std.specs.Option.{SomeIff};
 ghost use Rattle.std.specs.Int.{w64};
 ghost use Rattle.pp_sld.specs.BuiltIns.{has_other, when, bind_within, compare, decide_plus, decide_times, decide_indomain, is_integer, decide as decide_of};
-ghost use Rattle.pp_term.specs.Meanings.{given_of};
+ghost use Rattle.pp_row.specs.Givens.{given_of};
 ghost use Rattle.pp_tests.specs.Decisions.{test_of, decision_of};
 
 use crate::{Decision, Test};

@@ -11,15 +11,14 @@ use Rattle.pp_unify.proofs.Assigning.{assigned, any_allows}
 use Rattle.pp_unify.proofs.Equations.{AgreeAlike, verdict_same}
 use Rattle.std.proofs.lemmas.List.{get_or_append_left}
 use Rattle.std.proofs.Math.Seq.{get_or-append_seam, set-append_seam}
-use Rattle.pp_algebra.specs.Terms.{Tree, variable, Trees, none, more, put, put_all, variables, variables_all}
+use Rattle.pp_algebra.specs.Terms.{Tree, variable, Trees, none, more, put, put_all, variables, variables_all, join}
 use Rattle.pp_algebra.specs.Rows.{Domains}
 use Rattle.pp_algebra.specs.Covers.{IsIn}
 use Rattle.pp_algebra.specs.Canon.{has, place, firsts, canon}
 use Rattle.pp_algebra.proofs.Put.{put-put}
 use Rattle.pp_algebra.proofs.Antisym.{put-agree, put_all-agree}
-use Rattle.pp_sld.specs.Leaves.{variables_from}
-use Rattle.pp_term.specs.Reading.{join}
-use Rattle.pp_term.proofs.Numbering.{firsts-append}
+use Rattle.pp_algebra.specs.Numbered.{variables_from}
+use Rattle.pp_row.proofs.Numbering.{firsts-append}
 use Rattle.pp_unify.specs.declared.state.Slot.TheVariants as slots
 use Rattle.pp_unify.specs.declared.state.Slot.{Slot}
 use Rattle.pp_unify.specs.declared.state.Value.{Value}

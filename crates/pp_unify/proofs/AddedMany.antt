@@ -2,13 +2,12 @@
 use Rattle.std.proofs.Common.{◌≡◌, ℕ, zero, suc, ◌+◌, ◌<◌, ◌≤◌, List, [], ◌∷◌, ◌++◌, length, map, replicate, Option, Some, None, refl, ap, ◌∙◌, subst, inl, inr, arith, length-append}
 use Rattle.std.specs.Prelude.{nat_eq}
 use Rattle.std.proofs.lemmas.List.{length-replicate}
-use Rattle.pp_algebra.specs.Terms.{Tree, variable, Trees, none, more, put_all, variables, variables_all}
+use Rattle.pp_algebra.specs.Terms.{Tree, variable, Trees, none, more, put_all, variables, variables_all, join}
 use Rattle.pp_algebra.specs.Rows.{Domains, Row}
 use Rattle.pp_algebra.specs.Covers.{IsIn}
 use Rattle.pp_algebra.specs.Canon.{place, firsts, canon}
 use Rattle.pp_algebra.proofs.Antisym.{put_all-agree}
-use Rattle.pp_sld.specs.Leaves.{variables_from}
-use Rattle.pp_term.specs.Reading.{join}
+use Rattle.pp_algebra.specs.Numbered.{variables_from}
 use Rattle.pp_unify.specs.declared.state.Slot.{Slot}
 use Rattle.pp_unify.specs.declared.state.Slot.TheVariants as slots
 use Rattle.pp_unify.specs.declared.state.Entry.{Entry}

@@ -4,7 +4,7 @@ use Rattle.std.specs.Prelude.{cond, nat_eq}
 use Rattle.std.proofs.lemmas.List.{map-append, get_or_append_left}
 use Rattle.std.proofs.Math.Seq.{get_or-append_seam}
 use Rattle.std.proofs.Math.ListN.{length-map}
-use Rattle.pp_algebra.specs.Terms.{Tree, variable, Trees, none, more, put, put_all, variables, variables_all}
+use Rattle.pp_algebra.specs.Terms.{Tree, variable, Trees, none, more, put, put_all, variables, variables_all, join}
 use Rattle.pp_algebra.specs.Rows.{Domain, Domains}
 use Rattle.pp_algebra.specs.Covers.{IsIn}
 use Rattle.pp_algebra.specs.Canon.{has, place, firsts, canon}
@@ -12,11 +12,10 @@ use Rattle.pp_algebra.proofs.Antisym.{put_all-agree, IsIn-either}
 use Rattle.pp_algebra.proofs.Bools.{nat_same}
 use Rattle.pp_algebra.proofs.CanonLemmas.{nat_eq-IsSame, has-all}
 use Rattle.pp_algebra.proofs.OneCanon.{not_has}
-use Rattle.pp_sld.specs.Leaves.{variables_from}
+use Rattle.pp_algebra.specs.Numbered.{variables_from}
 use Rattle.pp_domain.specs.Sets.{set_of}
-use Rattle.pp_term.specs.Reading.{join}
-use Rattle.pp_term.proofs.Keys.{place_new, firsts_new}
-use Rattle.pp_term.proofs.Numbering.{place-front, firsts-append}
+use Rattle.pp_row.proofs.Keys.{place_new, firsts_new}
+use Rattle.pp_row.proofs.Numbering.{place-front, firsts-append}
 use Rattle.pp_unify.specs.declared.state.Slot.{Slot}
 use Rattle.pp_unify.specs.declared.state.Slot.TheVariants as slots
 use Rattle.pp_unify.specs.declared.state.State.{State}

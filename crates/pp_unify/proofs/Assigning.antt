@@ -1,9 +1,9 @@
 -- A free variable is bound to an integer, an atom or a compound.
 use Rattle.std.proofs.Common.{◌≡◌, ℕ, ℤ, ◌<◌, List, length, Bool, true, false, Option, Some, None, refl, ap, sym, ◌∙◌, subst, inl, inr, arith}
 use Rattle.std.specs.Prelude.{IsTrue, not, ◌↔◌}
-use Rattle.pp_term.specs.declared.cell.Cell.{Cell}
-use Rattle.pp_term.specs.Reading.{IsForest}
-use Rattle.pp_term.proofs.Next.{cell_of}
+use Rattle.pp_row.specs.declared.cell.Cell.{Cell}
+use Rattle.pp_row.specs.Reading.{IsForest}
+use Rattle.pp_row.proofs.Next.{cell_of}
 use Rattle.pp_algebra.specs.Terms.{Tree, int, node, variable, put, put_all, variables}
 use Rattle.pp_algebra.specs.Rows.{Domain, Domains}
 use Rattle.pp_algebra.specs.Covers.{IsIn, MayGo}

@@ -1,7 +1,7 @@
 -- A variable is bound, or gets another domain.
 use Rattle.std.proofs.Common.{◌≡◌, ℕ, suc, ◌+◌, ◌*◌, ◌≤◌, length, Option, ap, sym, ◌∙◌, subst, arith, length-set}
 use Rattle.std.proofs.Math.Nat.{mul-le-mul_left}
-use Rattle.pp_algebra.specs.Terms.{Tree, Trees, put, put_all, variables}
+use Rattle.pp_algebra.specs.Terms.{Tree, Trees, put, put_all, variables, size, size_all}
 use Rattle.pp_algebra.specs.Rows.{Domains}
 use Rattle.pp_algebra.specs.Covers.{IsIn, MayGo}
 use Rattle.pp_algebra.proofs.Put.{put-variable, put_all-put_all}
@@ -16,7 +16,7 @@ use Rattle.pp_unify.specs.Stores.{Store, store_of, entries_of, made, single, sol
 use Rattle.pp_unify.specs.Agreement.{Says, Agrees}
 use Rattle.pp_unify.specs.Soundness.{IsTarget, IsPlace, IsStep, IsGood, IsKept}
 use Rattle.pp_unify.specs.Outcomes.{IsFree, IsChange, IsLater, IsSteady, Shrinks, frees}
-use Rattle.pp_unify.specs.Spans.{size, size_all, sizes}
+use Rattle.pp_unify.specs.Spans.{sizes}
 use Rattle.pp_unify.proofs.Slots.{bound_says, says_bound, slot_term-slot_of}
 use Rattle.pp_unify.proofs.Changes.{at_same}
 use Rattle.pp_unify.proofs.Keeping.{kept_change, good_change, solution_change}

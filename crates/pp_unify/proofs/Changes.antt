@@ -2,9 +2,9 @@
 use Rattle.std.proofs.Common.{◌≡◌, ℕ, zero, suc, ◌<◌, ◌≤◌, List, length, take, drop, set, Bool, true, false, Option, None, refl, ap, sym, ◌∙◌, ◌⊎◌, inl, inr, arith, get_or-set_same, get_or-set_other, length-set, take-append-drop}
 use Rattle.std.specs.Prelude.{nat_eq}
 use Rattle.std.proofs.lemmas.List.{get_or-take, get_or_past, length-take}
-use Rattle.pp_term.specs.declared.cell.Cell.{Cell}
-use Rattle.pp_term.specs.Reading.{IsForest}
-use Rattle.pp_term.proofs.Next.{forest_from}
+use Rattle.pp_row.specs.declared.cell.Cell.{Cell}
+use Rattle.pp_row.specs.Reading.{IsForest}
+use Rattle.pp_row.proofs.Next.{forest_from}
 use Rattle.pp_algebra.specs.Terms.{Tree, put}
 use Rattle.pp_algebra.proofs.Bools.{nat_same, nat_is}
 use Rattle.pp_unify.specs.declared.state.Slot.{Slot}

@@ -7,7 +7,7 @@ use Rattle.pp_algebra.specs.Covers.{MayGo}
 use Rattle.pp_algebra.specs.Solve.{equation}
 use Rattle.pp_algebra.specs.Canon.{canon}
 use Rattle.pp_algebra.proofs.Antisym.{put_all-agree}
-use Rattle.pp_sld.specs.Leaves.{variables_from}
+use Rattle.pp_algebra.specs.Numbered.{variables_from}
 use Rattle.pp_unify.specs.declared.state.Slot.{Slot}
 use Rattle.pp_unify.specs.declared.state.Slot.TheVariants as slots
 use Rattle.pp_unify.specs.declared.state.Value.{Value}

@@ -2,14 +2,14 @@
 use Rattle.std.proofs.Common.{◌≡◌, ℕ, ℤ, ◌<◌, ◌≤◌, pos, List, ◌++◌, drop, length, refl, ap, sym, ◌∙◌, arith, Some, slice_index_or}
 use Rattle.std.proofs.lemmas.List.{drop-append-le, get_or_append_left, get_or_read_under}
 use Rattle.std.proofs.lemmas.List.Elements.{All-append, All-get_or}
-use Rattle.pp_term.specs.declared.cell.Cell.{Cell}
-use Rattle.pp_term.specs.declared.cell.Cell.TheVariants.{Int, Atom, Var}
-use Rattle.pp_term.specs.Cells.{IsLegalCell}
-use Rattle.pp_term.specs.Reading.{join, stack, all_of, forest, IsForest, from}
-use Rattle.pp_term.specs.Codes.{stack-cells_of_all}
-use Rattle.pp_term.proofs.OneTerm.{stack-is}
-use Rattle.pp_term.proofs.Next.{next, cell_of, forest_from}
-use Rattle.pp_algebra.specs.Terms.{Tree, int, node, variable, Trees, none, more}
+use Rattle.pp_row.specs.declared.cell.Cell.{Cell}
+use Rattle.pp_row.specs.declared.cell.Cell.TheVariants.{Int, Atom, Var}
+use Rattle.pp_row.specs.Cells.{IsLegalCell}
+use Rattle.pp_row.specs.Reading.{stack, all_of, forest, IsForest, from}
+use Rattle.pp_row.specs.Codes.{stack-cells_of_all}
+use Rattle.pp_row.proofs.OneTerm.{stack-is}
+use Rattle.pp_row.proofs.Next.{next, cell_of, forest_from}
+use Rattle.pp_algebra.specs.Terms.{Tree, int, node, variable, Trees, none, more, join}
 use Rattle.pp_algebra.specs.Least.{first, rest}
 use Rattle.pp_unify.specs.Values.{cell_at, term_at}
 

@@ -9,8 +9,7 @@ use Rattle.pp_algebra.specs.Canon.{has, place}
 use Rattle.pp_algebra.specs.Members.{IsInteger}
 use Rattle.pp_algebra.proofs.Put.{put-put}
 use Rattle.pp_algebra.proofs.Antisym.{put-agree}
-use Rattle.pp_sld.specs.BuiltIns.{ranged, free}
-use Rattle.pp_sld.specs.Selection.{given, given_of}
+use Rattle.pp_algebra.specs.Givens.{ranged, free, given, given_variable}
 use Rattle.pp_unify.specs.declared.state.Slot.{Slot}
 use Rattle.pp_unify.specs.declared.state.Value.{Value}
 use Rattle.pp_unify.specs.declared.state.Value.TheVariants.{Variable, Int}
@@ -76,16 +75,16 @@ module _ (s : State) (rs : List Row) (t : Tree ℕ) (e : states_of s ≡ rs) (a 
       ∙ ap (λ r. domain_at r.domains (place nat_eq (names (entries_of s) (store_of s)) v)) (sym (present_row s rs e))
       ∙ domain_named (entries_of s) (store_of s) v (free_named v (subst (λ u. IsIn v (variables u)) (sym h) (inl refl)))
 
-  pub place_given : (v : ℕ) → put (solution s) t ≡ variable v → given (present rs).domains (in_place (present rs) t) ≡ given_of (slot_domain s.domains.items (slot_at s.slots.items v))
+  pub place_given : (v : ℕ) → put (solution s) t ≡ variable v → given (present rs).domains (in_place (present rs) t) ≡ given_variable (slot_domain s.domains.items (slot_at s.slots.items v))
   place_given v h =
       ap (given (present rs).domains) (in_place_now ∙ ap (put named) h)
-      ∙ ap (λ r. given_of (domain_at r.domains (place nat_eq (names (entries_of s) (store_of s)) v))) (sym (present_row s rs e))
-      ∙ ap given_of (domain_named (entries_of s) (store_of s) v (free_named v (subst (λ u. IsIn v (variables u)) (sym h) (inl refl))))
+      ∙ ap (λ r. given_variable (domain_at r.domains (place nat_eq (names (entries_of s) (store_of s)) v))) (sym (present_row s rs e))
+      ∙ ap given_variable (domain_named (entries_of s) (store_of s) v (free_named v (subst (λ u. IsIn v (variables u)) (sym h) (inl refl))))
 
-pub given_some : {T : Type 0} (f : T → Domain) (o : Option T) (d : Option Domain) → option_map f o ≡ d → true ≡ is_some o → ranged ≡ given_of d
+pub given_some : {T : Type 0} (f : T → Domain) (o : Option T) (d : Option Domain) → option_map f o ≡ d → true ≡ is_some o → ranged ≡ given_variable d
 given_some f None d e h = absurd (cc)
-given_some f (Some x) d e h = ap given_of e
+given_some f (Some x) d e h = ap given_variable e
 
-pub given_none : {T : Type 0} (f : T → Domain) (o : Option T) (d : Option Domain) → option_map f o ≡ d → false ≡ is_some o → free ≡ given_of d
-given_none f None d e h = ap given_of e
+pub given_none : {T : Type 0} (f : T → Domain) (o : Option T) (d : Option Domain) → option_map f o ≡ d → false ≡ is_some o → free ≡ given_variable d
+given_none f None d e h = ap given_variable e
 given_none f (Some x) d e h = absurd (cc)

@@ -4,10 +4,10 @@ use Rattle.std.proofs.Common.{replicate}
 use Rattle.std.proofs.Math.Seq.{take-append_seam}
 use Rattle.std.proofs.lemmas.List.{get_or-append-add, get_or_append_left}
 use Rattle.std.proofs.lemmas.List.Elements.{All-nil}
-use Rattle.pp_term.specs.declared.cell.Cell.{Cell}
-use Rattle.pp_term.specs.declared.cell.Cell.TheVariants as cells
-use Rattle.pp_term.specs.Cells.{IsLegalCell, renamed}
-use Rattle.pp_term.specs.Reading.{IsForest}
+use Rattle.pp_row.specs.declared.cell.Cell.{Cell}
+use Rattle.pp_row.specs.declared.cell.Cell.TheVariants as cells
+use Rattle.pp_row.specs.Cells.{IsLegalCell, renamed}
+use Rattle.pp_row.specs.Reading.{IsForest}
 use Rattle.pp_algebra.proofs.Put.{put-variable}
 use Rattle.pp_unify.specs.declared.state.Slot.{Slot}
 use Rattle.pp_unify.specs.declared.state.Slot.TheVariants.{Free}

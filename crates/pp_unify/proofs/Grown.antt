@@ -2,22 +2,23 @@
 use Rattle.std.proofs.Common.{◌≡◌, ℕ, zero, suc, ◌+◌, ◌<◌, ◌≤◌, List, [], ◌∷◌, ◌++◌, length, pos, All, Some, refl, ap, sym, ◌∙◌, subst, inl, arith, append-nil, length-append}
 use Rattle.std.proofs.Math.Seq.{drop-append_seam}
 use Rattle.std.proofs.lemmas.List.{get_or-append-add}
-use Rattle.pp_term.specs.declared.cell.Cell.{Cell}
-use Rattle.pp_term.specs.declared.cell.Cell.TheVariants.{Int, Compound, Var}
+use Rattle.pp_row.specs.declared.cell.Cell.{Cell}
+use Rattle.pp_row.specs.declared.cell.Cell.TheVariants.{Int, Compound, Var}
 use Rattle.pp_algebra.specs.Terms.{Tree, int, node, variable, none, more}
 use Rattle.pp_algebra.specs.Covers.{IsIn}
 use Rattle.pp_algebra.specs.Least.{first}
 use Rattle.pp_algebra.proofs.Antisym.{put-agree}
 use Rattle.pp_algebra.proofs.Put.{put-variable}
 use Rattle.pp_algebra.proofs.Order.{IsIn-left, IsIn-right}
-use Rattle.pp_term.specs.Cells.{cells_of, variables_in, IsTerm, IsLegalCell, renamed}
-use Rattle.pp_term.specs.Codes.{stack-cells_of, tree_of-cells_of}
-use Rattle.pp_term.specs.Reading.{stack, all_of, IsForest}
-use Rattle.pp_term.proofs.Renaming.{variables_among, among-cells_of, renamed-cells_of, renamed_term}
+use Rattle.pp_row.specs.Cells.{cells_of, variables_in, IsTerm, IsLegalCell, renamed}
+use Rattle.pp_row.specs.Codes.{stack-cells_of, tree_of-cells_of}
+use Rattle.pp_row.specs.Reading.{stack, all_of, IsForest}
+use Rattle.pp_row.proofs.Renaming.{among-cells_of, renamed-cells_of, renamed_term}
+use Rattle.pp_row.specs.Cells.{variables_among}
 use Rattle.pp_unify.specs.declared.state.Slot.{Slot}
 use Rattle.pp_unify.specs.Values.{cell_at, term_at, shifted}
 use Rattle.pp_unify.specs.Soundness.{IsCompound}
-use Rattle.pp_unify.specs.States.{counted_from}
+use Rattle.pp_algebra.specs.Numbered.{counted_from}
 use Rattle.pp_unify.specs.Tops.{IsAmong}
 
 -- the cells of one term

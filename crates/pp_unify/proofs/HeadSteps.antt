@@ -4,13 +4,14 @@ use Rattle.std.specs.Prelude.{◌↔◌}
 use Rattle.std.proofs.lemmas.List.{drop-append-le}
 use Rattle.std.proofs.lemmas.List.Elements.{All-drop, All-take}
 use Rattle.std.proofs.Math.ListN.{drop_of_length-le}
-use Rattle.pp_term.specs.declared.cell.Cell.{Cell}
-use Rattle.pp_term.specs.declared.cell.Cell.TheVariants as cells
-use Rattle.pp_term.specs.Cells.{arity_of, head_of, cells_of, IsLegalCell, IsTerm}
-use Rattle.pp_term.proofs.Piece.{piece}
-use Rattle.pp_term.specs.Reading.{join, all_of, forest, IsForest, from}
-use Rattle.pp_term.proofs.Next.{next, cell_of, forest_from, count-join}
-use Rattle.pp_algebra.specs.Terms.{Tree, int, node, variable, Trees, none, more, put, put_all, count}
+use Rattle.pp_row.specs.declared.cell.Cell.{Cell}
+use Rattle.pp_row.specs.declared.cell.Cell.TheVariants as cells
+use Rattle.pp_row.specs.Cells.{arity_of, head_of, cells_of, IsLegalCell, IsTerm}
+use Rattle.pp_row.proofs.Piece.{piece}
+use Rattle.pp_row.specs.Reading.{all_of, forest, IsForest, from}
+use Rattle.pp_row.proofs.Next.{next, cell_of, forest_from}
+use Rattle.pp_algebra.proofs.Joined.{count-join}
+use Rattle.pp_algebra.specs.Terms.{Tree, int, node, variable, Trees, none, more, put, put_all, count, join}
 use Rattle.pp_algebra.specs.Rows.{Domains}
 use Rattle.pp_algebra.specs.Least.{first, rest, arguments}
 use Rattle.pp_algebra.specs.Solve.{equation}
@@ -32,7 +33,7 @@ use Rattle.pp_unify.specs.Agreement.{Agrees, AllWide, Follows, Excludes}
 use Rattle.pp_unify.specs.Soundness.{IsCompound, IsGood}
 use Rattle.pp_unify.specs.Outcomes.{AreMore, IsAnswer, IsVerdict}
 use Rattle.pp_unify.specs.Spans.{IsSpan, take_trees, span_terms, terms_of}
-use Rattle.pp_unify.specs.States.{counted_from}
+use Rattle.pp_algebra.specs.Numbered.{counted_from}
 use Rattle.pp_unify.specs.Heads.{counted, IsPast, IsHead, IsPiece}
 use Rattle.pp_unify.proofs.Forests.{term_cell, stack_append}
 use Rattle.pp_unify.proofs.Changes.{below_or}

@@ -1,18 +1,19 @@
 -- Terms of the heap: their variables stand in it as cells, and at a compound's cell begins a term with a name.
 use Rattle.std.proofs.Common.{◌≡◌, ℕ, zero, suc, ◌+◌, ◌<◌, pos, List, [], ◌∷◌, ◌++◌, length, drop, refl, ap, sym, ◌∙◌, subst, inl, inr}
 use Rattle.std.proofs.lemmas.List.{get_or-drop}
-use Rattle.pp_term.specs.declared.cell.Cell.{Cell}
-use Rattle.pp_term.specs.declared.cell.Cell.TheVariants.{Int, Atom, Compound, Var}
+use Rattle.pp_row.specs.declared.cell.Cell.{Cell}
+use Rattle.pp_row.specs.declared.cell.Cell.TheVariants.{Int, Atom, Compound, Var}
 use Rattle.pp_algebra.specs.Terms.{Tree, int, node, variable, Trees, none, more, variables}
 use Rattle.pp_algebra.specs.Covers.{IsIn}
 use Rattle.pp_algebra.specs.Least.{first, rest}
 use Rattle.pp_algebra.proofs.Antisym.{IsIn-either}
 use Rattle.pp_algebra.proofs.Order.{IsIn-left}
-use Rattle.pp_term.specs.Cells.{cells_of, cells_of_all, variables_in}
-use Rattle.pp_term.specs.Reading.{IsForest, from}
-use Rattle.pp_term.proofs.Next.{next, cell_of}
-use Rattle.pp_term.proofs.Piece.{cells_from}
-use Rattle.pp_term.proofs.Renaming.{variables_among, among-append, among-cells_of}
+use Rattle.pp_row.specs.Cells.{cells_of, cells_of_all, variables_in}
+use Rattle.pp_row.specs.Reading.{IsForest, from}
+use Rattle.pp_row.proofs.Next.{next, cell_of}
+use Rattle.pp_row.proofs.Piece.{cells_from}
+use Rattle.pp_row.proofs.Renaming.{among-append, among-cells_of}
+use Rattle.pp_row.specs.Cells.{variables_among}
 use Rattle.pp_unify.specs.Values.{cell_at, term_at}
 use Rattle.pp_unify.specs.Soundness.{IsCompound}
 

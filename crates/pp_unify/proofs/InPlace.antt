@@ -11,9 +11,9 @@ use Rattle.pp_algebra.proofs.Put.{put_all-put_all, put_all-variable}
 use Rattle.pp_algebra.proofs.Antisym.{put_all-agree, covers_antisymmetric, IsIn-either}
 use Rattle.pp_algebra.proofs.Order.{may_stay, covers_through}
 use Rattle.pp_algebra.proofs.CanonLemmas.{nat_eq-IsSame, at, name, at-place, canon-IsCanonical, canon-covers, covers-canon}
-use Rattle.pp_term.specs.Columns.{trees_of, sets_of, row_by}
-use Rattle.pp_term.proofs.Numbering.{placed, names_of, names_push, columns_push}
-use Rattle.pp_term.proofs.ColumnLists.{put-trees_of}
+use Rattle.pp_row.specs.Columns.{trees_of, sets_of, row_by}
+use Rattle.pp_row.proofs.Numbering.{placed, names_of, names_push, columns_push}
+use Rattle.pp_row.proofs.ColumnLists.{put-trees_of}
 use Rattle.pp_unify.specs.declared.state.Slot.{Slot}
 use Rattle.pp_unify.specs.declared.state.State.{State}
 use Rattle.pp_unify.specs.Values.{slot_at, slot_domain}

@@ -2,11 +2,11 @@
 use Rattle.std.proofs.Common.{◌≡◌, ℕ, ◌+◌, ◌-◌, ◌<◌, List, [], ◌∷◌, ◌++◌, All, refl, ap, sym, ◌∙◌, subst, arith}
 use Rattle.std.specs.Prelude.{◌↔◌}
 use Rattle.std.proofs.lemmas.List.Elements.{All-push}
-use Rattle.pp_term.specs.declared.cell.Cell.{Cell}
-use Rattle.pp_term.specs.Cells.{arity_of}
-use Rattle.pp_term.specs.Reading.{join, IsForest}
-use Rattle.pp_term.proofs.Next.{next}
-use Rattle.pp_algebra.specs.Terms.{Tree, Trees, none, more, put, put_all, count}
+use Rattle.pp_row.specs.declared.cell.Cell.{Cell}
+use Rattle.pp_row.specs.Cells.{arity_of}
+use Rattle.pp_row.specs.Reading.{IsForest}
+use Rattle.pp_row.proofs.Next.{next}
+use Rattle.pp_algebra.specs.Terms.{Tree, Trees, none, more, put, put_all, count, join}
 use Rattle.pp_algebra.specs.Least.{rest, arguments}
 use Rattle.pp_algebra.proofs.Put.{count-put_all}
 use Rattle.pp_unify.specs.declared.places.Pair.{Pair}

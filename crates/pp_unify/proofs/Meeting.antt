@@ -1,11 +1,11 @@
 -- An equation of two values.
 use Rattle.std.proofs.Common.{◌≡◌, ℕ, List, Bool, true, false, refl, ap, sym, ◌∙◌, subst, inl, inr}
 use Rattle.std.specs.Prelude.{IsTrue, ◌↔◌}
-use Rattle.pp_term.specs.declared.cell.Cell.{Cell}
-use Rattle.pp_term.specs.Cells.{head_of}
-use Rattle.pp_term.specs.Reading.{IsForest}
-use Rattle.pp_term.proofs.Next.{cell_of}
-use Rattle.pp_algebra.specs.Terms.{Tree, int, node, variable, put}
+use Rattle.pp_row.specs.declared.cell.Cell.{Cell}
+use Rattle.pp_row.specs.Cells.{head_of}
+use Rattle.pp_row.specs.Reading.{IsForest}
+use Rattle.pp_row.proofs.Next.{cell_of}
+use Rattle.pp_algebra.specs.Terms.{Tree, int, node, variable, put, size}
 use Rattle.pp_algebra.specs.Rows.{Domains}
 use Rattle.pp_algebra.specs.Solve.{equation}
 use Rattle.pp_algebra.proofs.Put.{count-put_all}
@@ -19,7 +19,6 @@ use Rattle.pp_unify.specs.Stores.{store_of, solution}
 use Rattle.pp_unify.specs.Agreement.{Agrees, Excludes}
 use Rattle.pp_unify.specs.Soundness.{IsCompound, IsFixed, IsGood}
 use Rattle.pp_unify.specs.Outcomes.{IsAnswer, HasMet, met_by}
-use Rattle.pp_unify.specs.Spans.{size}
 use Rattle.pp_unify.proofs.Solutions.{own_domains, solution_agrees}
 use Rattle.pp_unify.proofs.Forests.{term_cell}
 use Rattle.pp_unify.proofs.Assigning.{nothing_solves, answer_turned}

@@ -27,7 +27,7 @@ integer_of : (ps : List (ℤ × ℤ)) (v : ℤ) → IsDomain ps → Lies ps v �
 integer_of ps v h l =
     let a = lies_above ps lower_limit upper_limit v h.apart l in
     let b = lies_below ps lower_limit upper_limit v h.apart l in
-    (omega (arith, ints, a), omega (arith, ints, b))
+    record { at_least = omega (arith, ints, a); at_most = omega (arith, ints, b) }
 
 only_of : (d : Domain) (v : ℤ) → set.len d ≡ 1 → set.contains d v ≡ true → (n : ℤ) → set.contains d n ≡ true → n ≡ v
 only_of d v e m n h = go (kind d)

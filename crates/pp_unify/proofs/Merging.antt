@@ -1,7 +1,7 @@
 -- Two free variables are made one.
 use Rattle.std.proofs.Common.{◌≡◌, ℕ, ℤ, ◌+◌, ◌*◌, ◌<◌, ◌≤◌, [], ◌∷◌, length, Option, ap, sym, ◌∙◌, subst, inl, inr, arith, length-set}
 use Rattle.std.proofs.Math.Nat.{mul-le-mul_left}
-use Rattle.pp_algebra.specs.Terms.{Tree, variable, Trees, variables}
+use Rattle.pp_algebra.specs.Terms.{Tree, variable, Trees, variables, size, size_all}
 use Rattle.pp_algebra.specs.Rows.{Domains}
 use Rattle.pp_algebra.specs.Covers.{IsIn, MayGo}
 use Rattle.pp_algebra.specs.Solve.{equation}
@@ -16,7 +16,7 @@ use Rattle.pp_unify.specs.Stores.{Store, store_of, solution}
 use Rattle.pp_unify.specs.Agreement.{Agrees, Follows}
 use Rattle.pp_unify.specs.Soundness.{IsPlace, IsGood}
 use Rattle.pp_unify.specs.Outcomes.{IsFree, IsSame, IsCalm, IsLater, IsMeeting, Shrinks, Solves, frees}
-use Rattle.pp_unify.specs.Spans.{size, size_all, sizes}
+use Rattle.pp_unify.specs.Spans.{sizes}
 use Rattle.pp_unify.proofs.Slots.{agrees_free, agrees_bound}
 use Rattle.pp_unify.proofs.Changes.{at_same, at_other}
 use Rattle.pp_unify.proofs.Solutions.{solution_free}

@@ -5,11 +5,13 @@ use Rattle.pp_algebra.specs.Terms.{Tree, variable, variables, count}
 use Rattle.pp_algebra.specs.Rows.{Row}
 use Rattle.pp_algebra.specs.Covers.{IsIn}
 use Rattle.pp_algebra.proofs.Antisym.{IsIn-either}
-use Rattle.pp_term.specs.declared.cell.Cell.{Cell}
-use Rattle.pp_term.specs.declared.cell.Cell.TheVariants.{Int, Atom, Compound, Var}
-use Rattle.pp_term.specs.Cells.{cells_of, variables_in}
-use Rattle.pp_term.proofs.Renaming.{variables_among, among-cells_of}
-use Rattle.pp_unify.specs.States.{counted_from, IsOver}
+use Rattle.pp_row.specs.declared.cell.Cell.{Cell}
+use Rattle.pp_row.specs.declared.cell.Cell.TheVariants.{Int, Atom, Compound, Var}
+use Rattle.pp_row.specs.Cells.{cells_of, variables_in}
+use Rattle.pp_row.proofs.Renaming.{among-cells_of}
+use Rattle.pp_row.specs.Cells.{variables_among}
+use Rattle.pp_unify.specs.States.{IsOver}
+use Rattle.pp_algebra.specs.Numbered.{counted_from}
 use Rattle.pp_unify.specs.Tops.{IsThere}
 use Rattle.pp_unify.proofs.Among.{comes_from}
 use Rattle.pp_unify.proofs.Grown.{counted-zero}

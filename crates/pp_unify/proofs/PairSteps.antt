@@ -1,10 +1,10 @@
 -- A pair is taken from the work, and what becomes of it.
 use Rattle.std.proofs.Common.{◌≡◌, ℕ, ◌+◌, ◌*◌, ◌<◌, ◌≤◌, List, [], ◌∷◌, ◌++◌, length, refl, ap, sym, ◌∙◌, subst, arith, inl, inr}
 use Rattle.std.specs.Prelude.{◌↔◌}
-use Rattle.pp_term.specs.declared.cell.Cell.{Cell}
-use Rattle.pp_term.specs.Reading.{IsForest, from}
-use Rattle.pp_term.proofs.Next.{cell_of}
-use Rattle.pp_algebra.specs.Terms.{Tree, int, node, variable, Trees, none, more, put, put_all}
+use Rattle.pp_row.specs.declared.cell.Cell.{Cell}
+use Rattle.pp_row.specs.Reading.{IsForest, from}
+use Rattle.pp_row.proofs.Next.{cell_of}
+use Rattle.pp_algebra.specs.Terms.{Tree, int, node, variable, Trees, none, more, put, put_all, size}
 use Rattle.pp_algebra.specs.Rows.{Domains}
 use Rattle.pp_algebra.specs.Least.{rest, arguments}
 use Rattle.pp_unify.specs.declared.places.Span.{Span}
@@ -15,7 +15,7 @@ use Rattle.pp_unify.specs.Stores.{Store, store_of, solution}
 use Rattle.pp_unify.specs.Agreement.{Agrees}
 use Rattle.pp_unify.specs.Soundness.{IsCompound, IsGood}
 use Rattle.pp_unify.specs.Outcomes.{IsSame, IsOpen, Solves, frees}
-use Rattle.pp_unify.specs.Spans.{span_terms, left_span, right_span, IsSpan, IsPair, AllEqual, both_sizes, sizes, size, Pushes, weight}
+use Rattle.pp_unify.specs.Spans.{span_terms, left_span, right_span, IsSpan, IsPair, AllEqual, both_sizes, sizes, Pushes, weight}
 use Rattle.pp_unify.proofs.Forests.{term_cell}
 use Rattle.pp_unify.proofs.Keeping.{solution_same}
 use Rattle.pp_unify.proofs.Solutions.{own_domains, solution_agrees}

@@ -2,7 +2,7 @@
 use Rattle.std.proofs.Common.{◌≡◌, ℕ, ◌+◌, List, [], ◌∷◌, ◌++◌, refl, arith, All, Some}
 use Rattle.std.specs.Prelude.{◌↔◌}
 use Rattle.std.proofs.lemmas.List.Elements.{All-push, All-pop}
-use Rattle.pp_term.specs.declared.cell.Cell.{Cell}
+use Rattle.pp_row.specs.declared.cell.Cell.{Cell}
 use Rattle.pp_algebra.specs.Terms.{Tree, Trees, none, put_all}
 use Rattle.pp_unify.specs.declared.places.Pair.{Pair}
 use Rattle.pp_unify.specs.Spans.{span_terms, left_span, right_span, IsPair, AllEqual, both_sizes, sizes, Pushes}

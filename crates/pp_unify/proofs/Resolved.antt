@@ -1,10 +1,10 @@
 -- The cells of resolved terms.
 use Rattle.std.proofs.Common.{◌≡◌, ℕ, ◌<◌, arith, List, [], ◌∷◌, ◌++◌, length, refl, ap, sym, ◌∙◌, subst, append_assoc}
-use Rattle.pp_term.specs.declared.cell.Cell.{Cell}
-use Rattle.pp_term.specs.Cells.{cells_of, cells_of_all, head_of}
-use Rattle.pp_term.specs.Reading.{join, IsForest}
-use Rattle.pp_term.proofs.Next.{cell_of}
-use Rattle.pp_algebra.specs.Terms.{Tree, int, node, variable, Trees, none, more, put, put_all}
+use Rattle.pp_row.specs.declared.cell.Cell.{Cell}
+use Rattle.pp_row.specs.Cells.{cells_of, cells_of_all, head_of}
+use Rattle.pp_row.specs.Reading.{IsForest}
+use Rattle.pp_row.proofs.Next.{cell_of}
+use Rattle.pp_algebra.specs.Terms.{Tree, int, node, variable, Trees, none, more, put, put_all, join}
 use Rattle.pp_algebra.specs.Least.{arguments}
 use Rattle.pp_algebra.proofs.Put.{count-put_all}
 use Rattle.pp_unify.specs.declared.places.Span.{Span}

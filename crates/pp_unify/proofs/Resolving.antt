@@ -5,11 +5,11 @@ use Rattle.std.specs.Option.{ok_or}
 use Rattle.std.specs.List.{flat_map}
 use Rattle.std.proofs.lemmas.List.{take_all}
 use Rattle.std.proofs.lemmas.List.Concat.{flat_map-append}
-use Rattle.pp_term.specs.declared.cell.Cell.{Cell}
+use Rattle.pp_row.specs.declared.cell.Cell.{Cell}
 use Rattle.pp_algebra.specs.Terms.{Tree, int, node, variable, Trees, none, more, count, put, put_all}
 use Rattle.pp_algebra.proofs.Put.{count-put_all}
-use Rattle.pp_term.specs.Cells.{cells_of, cells_of_all, head_of, IsTerm}
-use Rattle.pp_term.proofs.Piece.{same_cells}
+use Rattle.pp_row.specs.Cells.{cells_of, cells_of_all, head_of, IsTerm}
+use Rattle.pp_row.proofs.Piece.{same_cells}
 use Rattle.pp_unify.specs.Tops.{cells_under}
 
 module _ (s : ℕ → Tree ℕ) where

@@ -1,9 +1,9 @@
 -- How much terms grow when a variable is bound.
 use Rattle.std.proofs.Common.{◌≡◌, ℕ, zero, suc, ◌+◌, ◌-◌, ◌*◌, ◌<◌, ◌≤◌, Bool, true, false, cond, subst, arith}
 use Rattle.std.specs.Prelude.{nat_eq}
-use Rattle.pp_algebra.specs.Terms.{Tree, int, node, variable, Trees, none, more, put, put_all}
+use Rattle.pp_algebra.specs.Terms.{Tree, int, node, variable, Trees, none, more, put, put_all, size, size_all}
 use Rattle.pp_unify.specs.Stores.{single}
-use Rattle.pp_unify.specs.Spans.{size, size_all, weight}
+use Rattle.pp_unify.specs.Spans.{weight}
 use Rattle.pp_unify.proofs.Walk.{one}
 
 single_size : (x : ℕ) (u : Tree ℕ) (v : ℕ) → size (single x u v) ≤ size u

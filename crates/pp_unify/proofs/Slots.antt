@@ -1,7 +1,7 @@
 -- A slot is free or bound, and what it says of its variable.
 use Rattle.std.proofs.Common.{◌≡◌, ℕ, ℤ, ◌<◌, List, length, Option, None, refl, ap, sym, ◌∙◌, subst, slice_index_or}
 use Rattle.std.proofs.lemmas.List.{get_or_read_under}
-use Rattle.pp_term.specs.declared.cell.Cell.{Cell}
+use Rattle.pp_row.specs.declared.cell.Cell.{Cell}
 use Rattle.pp_algebra.specs.Terms.{Tree, put}
 use Rattle.pp_algebra.specs.Rows.{Domains}
 use Rattle.pp_algebra.specs.Covers.{MayGo}

@@ -11,7 +11,7 @@ use Rattle.pp_algebra.proofs.Put.{put-put, put_all-put_all, put_all-variable}
 use Rattle.pp_algebra.proofs.Antisym.{put-agree, put_all-agree}
 use Rattle.pp_algebra.proofs.Order.{may_stay}
 use Rattle.pp_algebra.proofs.Resume.{wide_at}
-use Rattle.pp_sld.specs.Leaves.{variables_from}
+use Rattle.pp_algebra.specs.Numbered.{variables_from}
 use Rattle.pp_unify.specs.declared.state.Slot.{Slot}
 use Rattle.pp_unify.specs.declared.state.Slot.TheVariants.{Free, Alias, Int, Atom, Compound}
 use Rattle.pp_unify.specs.declared.state.Entry.{Entry}

@@ -1,9 +1,9 @@
 -- The top of a term with all bindings in place.
 use Rattle.std.proofs.Common.{◌≡◌, ℕ, ℤ, ◌<◌, List, [], length, refl, sym, ◌∙◌, subst}
-use Rattle.pp_term.specs.declared.cell.Cell.{Cell}
-use Rattle.pp_term.specs.declared.cell.Cell.TheVariants as cells
+use Rattle.pp_row.specs.declared.cell.Cell.{Cell}
+use Rattle.pp_row.specs.declared.cell.Cell.TheVariants as cells
 use Rattle.pp_algebra.specs.Terms.{Tree, int, node, variable, none, put}
-use Rattle.pp_term.specs.Cells.{cells_of, IsTerm}
+use Rattle.pp_row.specs.Cells.{cells_of, IsTerm}
 use Rattle.pp_unify.specs.declared.state.Slot.{Slot}
 use Rattle.pp_unify.specs.declared.state.Value.{Value}
 use Rattle.pp_unify.specs.declared.state.Value.TheVariants.{Variable, Int, Atom, Compound}

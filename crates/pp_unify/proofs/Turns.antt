@@ -11,7 +11,8 @@ use Rattle.pp_algebra.proofs.Order.{goes_further, may_stay}
 use Rattle.pp_algebra.proofs.Law.{solved_once}
 use Rattle.pp_algebra.proofs.Solved.{rows_solve}
 use Rattle.pp_algebra.proofs.Solving.{covers-goes, any_order}
-use Rattle.pp_unify.specs.States.{column, value_in, IsOver}
+use Rattle.pp_unify.specs.States.{value_in, IsOver}
+use Rattle.pp_algebra.specs.Numbered.{column}
 use Rattle.pp_unify.specs.Laws.{item_in, IsItemOver, AreSolved, OneHasNone, SolvedInTurn, SolvedInAnyTurn}
 
 column-put : (s : ℕ → Tree ℕ) (ts : Trees ℕ) (v : ℕ) → v < count ts → column (put_all s ts) v ≡ put s (column ts v)

@@ -1,11 +1,11 @@
 -- A step of a walk over terms that are still to be seen.
 use Rattle.std.proofs.Common.{◌≡◌, ℕ, zero, suc, ◌+◌, ◌<◌, ◌≤◌, pos, List, [], ◌∷◌, ◌++◌, length, refl, ap, sym, ◌∙◌, subst, arith, append_assoc, append-nil, inl, inr}
 use Rattle.std.specs.Prelude.{◌↔◌}
-use Rattle.pp_term.specs.declared.cell.Cell.{Cell}
-use Rattle.pp_term.specs.declared.cell.Cell.TheVariants.{Int}
-use Rattle.pp_term.specs.Reading.{join, IsForest, from}
-use Rattle.pp_term.proofs.Next.{next, cell_of}
-use Rattle.pp_algebra.specs.Terms.{Tree, int, node, variable, Trees, none, more, put, put_all, count, variables, variables_all}
+use Rattle.pp_row.specs.declared.cell.Cell.{Cell}
+use Rattle.pp_row.specs.declared.cell.Cell.TheVariants.{Int}
+use Rattle.pp_row.specs.Reading.{IsForest, from}
+use Rattle.pp_row.proofs.Next.{next, cell_of}
+use Rattle.pp_algebra.specs.Terms.{Tree, int, node, variable, Trees, none, more, put, put_all, count, variables, variables_all, join, size}
 use Rattle.pp_algebra.specs.Covers.{IsIn}
 use Rattle.pp_algebra.specs.Least.{first, rest, arguments}
 use Rattle.pp_unify.specs.declared.places.Span.{Span}
@@ -13,7 +13,7 @@ use Rattle.pp_unify.specs.declared.state.Value as Values
 use Rattle.pp_unify.specs.declared.state.Value.TheVariants as Value
 use Rattle.pp_unify.specs.Values.{cell_at, term_at, value_term}
 use Rattle.pp_unify.specs.Soundness.{IsCompound}
-use Rattle.pp_unify.specs.Spans.{take_trees, span_terms, terms_of, IsSpan, size, sizes}
+use Rattle.pp_unify.specs.Spans.{take_trees, span_terms, terms_of, IsSpan, sizes}
 use Rattle.pp_unify.proofs.Forests.{term_cell}
 use Rattle.pp_unify.proofs.Work.{terms_of-push}
 

@@ -5,8 +5,8 @@ use mir.Val.{SFits}
 use Rattle.pp_algebra.specs.Members.{IsInteger}
 
 fits : (z : ℤ) → IsInteger z → SFits w64 z
-fits (pos n) h = record { sfits = omega (arith, ints, h.0, h.1) }
-fits (negsuc n) h = record { sfits = omega (arith, ints, h.0, h.1) }
+fits (pos n) h = record { sfits = omega (arith, ints, h.at_least, h.at_most) }
+fits (negsuc n) h = record { sfits = omega (arith, ints, h.at_least, h.at_most) }
 
 pub word : (z : ℤ) → IsInteger z → to_z w64 (of_z w64 z) ≡ z
 word z h = to_z-of_z w64 z (fits z h)

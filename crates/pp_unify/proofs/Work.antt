@@ -1,12 +1,13 @@
 -- Terms that are still to be walked.
 use Rattle.std.proofs.Common.{◌≡◌, ℕ, zero, suc, ◌+◌, ◌-◌, ◌<◌, ◌≤◌, pos, List, [], ◌∷◌, ◌++◌, length, refl, ap, sym, ◌∙◌, arith, All, Some}
 use Rattle.std.proofs.lemmas.List.Elements.{All-push, All-pop}
-use Rattle.pp_term.specs.declared.cell.Cell.{Cell}
-use Rattle.pp_term.specs.declared.cell.Cell.TheVariants.{Int, Atom, Compound, Var}
-use Rattle.pp_term.specs.Cells.{arity_of, IsLegalCell}
-use Rattle.pp_term.specs.Reading.{join, IsForest, from}
-use Rattle.pp_term.proofs.Next.{next, count_from, count-join, join-join}
-use Rattle.pp_algebra.specs.Terms.{Trees, none, more, count}
+use Rattle.pp_row.specs.declared.cell.Cell.{Cell}
+use Rattle.pp_row.specs.declared.cell.Cell.TheVariants.{Int, Atom, Compound, Var}
+use Rattle.pp_row.specs.Cells.{arity_of, IsLegalCell}
+use Rattle.pp_row.specs.Reading.{IsForest, from}
+use Rattle.pp_row.proofs.Next.{next, count_from}
+use Rattle.pp_algebra.proofs.Joined.{count-join, join-join}
+use Rattle.pp_algebra.specs.Terms.{Trees, none, more, count, join}
 use Rattle.pp_algebra.specs.Least.{rest, arguments}
 use Rattle.pp_unify.specs.declared.places.Span.{Span}
 use Rattle.pp_unify.specs.Values.{cell_at, term_at}

@@ -1,8 +1,8 @@
 -- A clause's head against a term of the heap, cell by cell.
 use Rattle.std.specs.Prelude.{◌≡◌, ℕ, ◌+◌, ◌<◌, ◌≤◌, ◌↔◌, List, length, All, Option, Some, None}
-use Rattle.pp_term.specs.declared.cell.Cell.{Cell}
-use Rattle.pp_term.specs.declared.cell.Cell.TheVariants as cells
-use Rattle.pp_term.specs.Reading.{IsForest, from}
+use Rattle.pp_row.specs.declared.cell.Cell.{Cell}
+use Rattle.pp_row.specs.declared.cell.Cell.TheVariants as cells
+use Rattle.pp_row.specs.Reading.{IsForest, from}
 use Rattle.pp_algebra.specs.Terms.{Tree, Trees, put, put_all, count}
 use Rattle.pp_algebra.specs.Rows.{Domains}
 use Rattle.pp_algebra.specs.Least.{rest}
@@ -17,7 +17,7 @@ use Rattle.pp_unify.specs.Outcomes.{IsValue}
 use Rattle.pp_unify.specs.declared.state.Value.{Value}
 use Rattle.pp_unify.specs.Agreement.{Agrees, AllWide, Excludes}
 use Rattle.pp_unify.specs.Spans.{IsSpan, terms_of}
-use Rattle.pp_unify.specs.States.{counted_from}
+use Rattle.pp_algebra.specs.Numbered.{counted_from}
 
 -- whole terms whose variables, counted from a first one, have slots
 pub record IsHead (slots : List Slot) (first : ℕ) (head : List Cell) : Type 0 where

@@ -1,8 +1,7 @@
 -- The laws of solving item after item, as statements.
 use Rattle.std.specs.Prelude.{◌≡◌, ℕ, ◌⊎◌, ◌↔◌, true, false, List, [], ◌∷◌, map, All}
 use Rattle.pp_algebra.specs.Rows.{Row, pattern_of, IsRow}
-use Rattle.pp_algebra.specs.Solve.{Item, equation, membership, put_item, IsSolved, HasNone}
-use Rattle.pp_algebra.specs.Laws.{SameItems}
+use Rattle.pp_algebra.specs.Solve.{Item, equation, membership, put_item, IsSolved, HasNone, SameItems}
 use Rattle.pp_unify.specs.States.{value_in, IsOver, IsSolvedBy}
 
 -- an item over the variables of the bindings, with all bindings in place

@@ -1,9 +1,9 @@
 -- What becomes of an equation or a membership.
 use Rattle.std.specs.Prelude.{◌≡◌, ℕ, ℤ, ◌+◌, ◌*◌, ◌<◌, ◌≤◌, ◌⊎◌, ◌↔◌, Bool, true, false, List, [], ◌∷◌, ◌++◌, length, Option, Some, None}
 use Rattle.std.specs.FinSet as set
-use Rattle.pp_term.specs.declared.cell.Cell.{Cell}
-use Rattle.pp_term.specs.Reading.{IsForest}
-use Rattle.pp_algebra.specs.Terms.{Tree, int, Trees, variable, put, variables}
+use Rattle.pp_row.specs.declared.cell.Cell.{Cell}
+use Rattle.pp_row.specs.Reading.{IsForest}
+use Rattle.pp_algebra.specs.Terms.{Tree, int, Trees, variable, put, variables, size}
 use Rattle.pp_algebra.specs.Rows.{Domain, Domains}
 use Rattle.pp_algebra.specs.Covers.{MayGo, IsIn}
 use Rattle.pp_algebra.specs.Members.{IsInteger}
@@ -23,7 +23,7 @@ use Rattle.pp_unify.specs.Values.{slot_at, slot_of, cell_at, term_at, value_term
 use Rattle.pp_unify.specs.Stores.{Store, store_of, entries_of, solution}
 use Rattle.pp_unify.specs.Agreement.{Agrees, AllWide, Follows, Excludes}
 use Rattle.pp_unify.specs.Soundness.{IsCompound, IsFixed, IsPlace, IsGood, IsKept}
-use Rattle.pp_unify.specs.Spans.{size, sizes}
+use Rattle.pp_unify.specs.Spans.{sizes}
 
 pub record IsFree (st : Store) (x : ℕ) (d : Option ℕ) : Type 0 where
   pub within : x < length st.slots

@@ -1,9 +1,9 @@
 -- The invariant of bindings.
 use Rattle.std.specs.Prelude.{◌≡◌, ℕ, ℤ, ◌<◌, ◌≤◌, ◌^◌, List, [], ◌∷◌, ◌++◌, length, All, Option, Some, None}
 use Rattle.std.specs.FinSet as set
-use Rattle.pp_term.specs.declared.cell.Cell.{Cell}
-use Rattle.pp_term.specs.declared.cell.Cell.TheVariants as cells
-use Rattle.pp_term.specs.Reading.{IsForest}
+use Rattle.pp_row.specs.declared.cell.Cell.{Cell}
+use Rattle.pp_row.specs.declared.cell.Cell.TheVariants as cells
+use Rattle.pp_row.specs.Reading.{IsForest}
 use Rattle.pp_algebra.specs.Terms.{put, variables}
 use Rattle.pp_algebra.specs.Covers.{IsIn}
 use Rattle.pp_algebra.specs.Members.{IsInteger}

@@ -1,8 +1,8 @@
 -- Terms that are still to be walked, and how much work they are.
 use Rattle.std.specs.Prelude.{◌≡◌, ℕ, zero, suc, ◌+◌, ◌*◌, ◌<◌, ◌≤◌, List, [], ◌∷◌, ◌++◌, length, All, ◌↔◌}
-use Rattle.pp_term.specs.declared.cell.Cell.{Cell}
-use Rattle.pp_term.specs.Reading.{from, join}
-use Rattle.pp_algebra.specs.Terms.{Tree, int, node, variable, Trees, none, more, put_all, count}
+use Rattle.pp_row.specs.declared.cell.Cell.{Cell}
+use Rattle.pp_row.specs.Reading.{from}
+use Rattle.pp_algebra.specs.Terms.{Tree, int, node, variable, Trees, none, more, put_all, count, join, size_all}
 use Rattle.pp_algebra.specs.Least.{rest}
 use Rattle.pp_unify.specs.declared.places.Span.{Span}
 use Rattle.pp_unify.specs.declared.places.Pair.{Pair}
@@ -45,16 +45,6 @@ pub record IsPair (heap : List Cell) (p : Pair) : Type 0 where
 abbrev pub AllEqual : List Cell → (ℕ → Tree ℕ) → List Pair → Type 0
 AllEqual heap s [] = Unit {0}
 AllEqual heap s (p ∷ ps) = (put_all s (span_terms heap (left_span p)) ≡ put_all s (span_terms heap (right_span p))) × AllEqual heap s ps
-
-abbrev mutual
-  pub size : Tree ℕ → ℕ
-  size (int n) = 1
-  size (node f ts) = suc (size_all ts)
-  size (variable v) = 1
-
-  pub size_all : Trees ℕ → ℕ
-  size_all none = 0
-  size_all (more t ts) = size t + size_all ts
 
 -- the size under a substitution
 abbrev pub sizes : (ℕ → Tree ℕ) → Trees ℕ → ℕ

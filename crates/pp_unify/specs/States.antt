@@ -1,15 +1,14 @@
 -- Bindings as the list of kept states, each the row of all variables; the present one is the last.
 use Rattle.std.specs.Prelude.{◌≡◌, ℕ, zero, suc, pos, nat_eq, ◌+◌, ◌<◌, Bool, true, false, List, [], ◌∷◌, ◌++◌, length, Option, None}
 use Rattle.std.specs.Coded.{Coded, coded_list}
-use Rattle.pp_algebra.specs.Terms.{Tree, int, node, variable, Trees, none, more, put, put_all, variables, count}
+use Rattle.pp_algebra.specs.Terms.{Tree, int, node, variable, Trees, none, more, put, put_all, variables, count, join}
 use Rattle.pp_algebra.specs.Rows.{Domain, Pattern, Row, pattern_of, domain_at}
 use Rattle.pp_algebra.specs.Covers.{IsIn}
 use Rattle.pp_algebra.specs.Canon.{canon}
 use Rattle.pp_algebra.specs.Solve.{Item, IsSolved, HasNone}
-use Rattle.pp_sld.specs.Leaves.{variables_from}
-use Rattle.pp_term.specs.Reading.{join}
-use Rattle.pp_term.specs.Codes.{row_code}
-use Rattle.pp_term.specs.Columns.{trees_of}
+use Rattle.pp_algebra.specs.Numbered.{variables_from, column}
+use Rattle.pp_row.specs.Codes.{row_code}
+use Rattle.pp_row.specs.Columns.{trees_of}
 use Rattle.pp_unify.specs.declared.state.Entry.{Entry}
 use Rattle.pp_unify.specs.declared.state.State.{State}
 use Rattle.pp_unify.specs.Values.{slot_at, slot_domain}
@@ -24,11 +23,6 @@ present [] = no_columns
 present (r ∷ []) = r
 present (r ∷ q ∷ rs) = present (q ∷ rs)
 
-abbrev pub column : Trees ℕ → ℕ → Tree ℕ
-column none v = int (pos 0)
-column (more t ts) zero = t
-column (more t ts) (suc v) = column ts v
-
 -- variable v is column v
 abbrev pub value_in : Row → ℕ → Tree ℕ
 value_in r = column r.columns
@@ -36,10 +30,6 @@ value_in r = column r.columns
 -- the term with all bindings in place
 abbrev pub in_place : Row → Tree ℕ → Tree ℕ
 in_place r t = put (value_in r) t
-
--- the term with the numbers of its variables counted from a first one
-abbrev pub counted_from : ℕ → Tree ℕ → Tree ℕ
-counted_from first t = put (λ v. variable (first + v)) t
 
 -- over the row's variables
 abbrev pub IsOver : Row → Tree ℕ → Type 0

@@ -1,6 +1,6 @@
 -- The contents of bindings, how a change is undone, and the substitution that all changes make.
 use Rattle.std.specs.Prelude.{ℕ, ℤ, cond, nat_eq, List, [], ◌∷◌, reverse, take, set}
-use Rattle.pp_term.specs.declared.cell.Cell.{Cell}
+use Rattle.pp_row.specs.declared.cell.Cell.{Cell}
 use Rattle.pp_algebra.specs.Terms.{Tree, variable, put}
 use Rattle.pp_unify.specs.declared.state.Slot.{Slot}
 use Rattle.pp_unify.specs.declared.state.Slot.TheVariants.{Free}

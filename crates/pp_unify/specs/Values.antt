@@ -1,9 +1,9 @@
 -- What slots and values stand for: terms of the heap, integers, atoms, variables, and domains by their places.
 use Rattle.std.specs.Prelude.{ℕ, ℤ, pos, ◌+◌, List, [], map, Option, Some, None, slice_index_or}
-use Rattle.pp_term.specs.declared.cell.Cell.{Cell}
-use Rattle.pp_term.specs.declared.cell.Cell.TheVariants as cells
-use Rattle.pp_term.specs.Cells.{renamed}
-use Rattle.pp_term.specs.Reading.{from}
+use Rattle.pp_row.specs.declared.cell.Cell.{Cell}
+use Rattle.pp_row.specs.declared.cell.Cell.TheVariants as cells
+use Rattle.pp_row.specs.Cells.{renamed}
+use Rattle.pp_row.specs.Reading.{from}
 use Rattle.pp_algebra.specs.Terms.{Tree, int, node, variable, none}
 use Rattle.pp_algebra.specs.Rows.{Domain}
 use Rattle.pp_algebra.specs.Least.{first}

@@ -1,16 +1,16 @@
 -- Writing the cells of terms with all bindings in place.
 use Rattle.std.specs.Prelude.{◌≡◌, ℕ, ◌+◌, ◌<◌, List, ◌++◌}
-use Rattle.pp_term.specs.declared.cell.Cell.{Cell}
-use Rattle.pp_term.specs.declared.cell.Cell.TheVariants as cells
-use Rattle.pp_term.specs.Cells.{cells_of, cells_of_all}
-use Rattle.pp_algebra.specs.Terms.{Tree, Trees, put, put_all}
+use Rattle.pp_row.specs.declared.cell.Cell.{Cell}
+use Rattle.pp_row.specs.declared.cell.Cell.TheVariants as cells
+use Rattle.pp_row.specs.Cells.{cells_of, cells_of_all}
+use Rattle.pp_algebra.specs.Terms.{Tree, Trees, put, put_all, size}
 use Rattle.pp_unify.specs.declared.places.Span.{Span}
 use Rattle.pp_unify.specs.declared.state.Value.{Value}
 use Rattle.pp_unify.specs.declared.state.Value.TheVariants.{Variable, Int, Atom, Compound}
 use Rattle.pp_unify.specs.declared.state.State.{State}
 use Rattle.pp_unify.specs.Values.{cell_at, value_term}
 use Rattle.pp_unify.specs.Stores.{solution}
-use Rattle.pp_unify.specs.Spans.{terms_of, size, sizes}
+use Rattle.pp_unify.specs.Spans.{terms_of, sizes}
 
 -- the first cell of a value
 abbrev pub top_cell : List Cell → Value → Cell

@@ -4,15 +4,16 @@ ghost use Rattle.pp_algebra.specs.Rows.{IsWide, IsRow};
 ghost use Rattle.pp_algebra.specs.Solve.{equation, membership};
 ghost use Rattle.pp_algebra.specs.Terms.{count};
 ghost use Rattle.pp_domain.specs.Sets.{set_of};
-ghost use Rattle.pp_sld.specs.Selection.{given};
-ghost use Rattle.pp_term.specs.Columns.{set_by};
-ghost use Rattle.pp_term.specs.Meanings.{given_of};
-ghost use Rattle.pp_unify.specs.States.{no_columns, present, value_in, in_place, counted_from, IsOver, with_new, with_many, with_value, IsLonger, IsSolvedBy, domain_in, row_in};
+ghost use Rattle.pp_algebra.specs.Givens.{given};
+ghost use Rattle.pp_row.specs.Columns.{set_by};
+ghost use Rattle.pp_row.specs.Givens.{given_of};
+ghost use Rattle.pp_unify.specs.States.{no_columns, present, value_in, in_place, IsOver, with_new, with_many, with_value, IsLonger, IsSolvedBy, domain_in, row_in};
+ghost use Rattle.pp_algebra.specs.Numbered.{counted_from};
 
 use crate::state::{State, Value};
 use indexmap::IndexSet;
 use pp_domain::Domain;
-use pp_term::{Given, Row, Term};
+use pp_row::{Given, Row, Term};
 use std::alloc::{AllocError, Global};
 use std::marker::Model;
 

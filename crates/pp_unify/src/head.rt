@@ -7,14 +7,14 @@ ghost use Rattle.pp_unify.specs.Stores.{store_of};
 ghost use Rattle.pp_unify.specs.Soundness.{IsGood, IsCompound};
 ghost use Rattle.pp_unify.specs.Outcomes.{IsNow, IsUnbound, IsFurther, IsVerdict, AreMore};
 ghost use Rattle.pp_unify.specs.Spans.{IsSpan, terms_of};
-ghost use Rattle.pp_unify.specs.States.{counted_from};
+ghost use Rattle.pp_algebra.specs.Numbered.{counted_from};
 ghost use Rattle.pp_unify.specs.Tops.{IsAmong};
 ghost use Rattle.pp_unify.specs.Heads.{IsHead, IsPiece, IsLeaf, HasPassed};
 
 use crate::places::Span;
 use crate::state::{State, Value};
 use crate::unify::is_same;
-use pp_term::{Cell, Term, end_of};
+use pp_row::{Cell, Term, end_of};
 use std::alloc::AllocError;
 
 impl State {

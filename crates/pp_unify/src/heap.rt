@@ -7,9 +7,9 @@ ghost use Rattle.pp_algebra.specs.Terms.{variable};
 ghost use Rattle.pp_unify.specs.Agreement.{Follows};
 ghost use Rattle.pp_unify.specs.Values.{value_term};
 ghost use Rattle.std.specs.Prelude.{replicate};
-ghost use Rattle.pp_term.specs.Cells.{renamed};
-ghost use Rattle.pp_term.specs.Reading.{IsForest};
-ghost use Rattle.pp_term.specs.Columns.{set_by};
+ghost use Rattle.pp_row.specs.Cells.{renamed};
+ghost use Rattle.pp_row.specs.Reading.{IsForest};
+ghost use Rattle.pp_row.specs.Columns.{set_by};
 ghost use Rattle.pp_unify.specs.Values.{cell_at, slot_at, domain_by, shifted};
 ghost use Rattle.pp_unify.specs.Stores.{store_of, solution};
 ghost use Rattle.pp_unify.specs.Soundness.{IsGood, IsKept, IsPlace};
@@ -17,7 +17,7 @@ ghost use Rattle.pp_unify.specs.Outcomes.{IsNow, IsGrown, IsCalm, IsAdded, IsAdd
 
 use crate::state::{Entry, Slot, State, Value};
 use pp_domain::Domain;
-use pp_term::Cell;
+use pp_row::Cell;
 use std::alloc::{AllocError, Global};
 
 /// The cell with its variable's number counted from `first`.

@@ -9,7 +9,7 @@ ghost use Rattle.pp_unify.specs.Soundness.{IsLinked};
 ghost use Rattle.pp_unify.specs.Outcomes.{IsValue};
 
 use crate::state::{Slot, State, Value};
-use pp_term::Cell;
+use pp_row::Cell;
 
 impl State {
     /// The last variable of a chain of variables that are bound to each other.

@@ -1,15 +1,15 @@
 //! Terms of the heap that are still to be walked.
 ghost use Rattle.std.specs.Prelude.{◌≡◌, ◌<◌, length, IfOk, IsTrue, All};
 ghost use Rattle.pp_algebra.specs.Least.{rest, arguments};
-ghost use Rattle.pp_term.specs.Cells.{arity_of};
-ghost use Rattle.pp_term.specs.Reading.{join};
+ghost use Rattle.pp_row.specs.Cells.{arity_of};
+ghost use Rattle.pp_algebra.specs.Terms.{join};
 ghost use Rattle.pp_unify.specs.Values.{cell_at, term_at};
 ghost use Rattle.pp_unify.specs.Soundness.{IsGood, IsCompound};
 ghost use Rattle.pp_unify.specs.Spans.{IsEnd, IsSpan, IsPair, Pushes, Opens, left_span, right_span, span_terms, terms_of};
 
 use crate::state::State;
 use crate::unify::is_same;
-use pp_term::{Cell, end_of};
+use pp_row::{Cell, end_of};
 use std::alloc::AllocError;
 
 /// Terms that stand one after another in the heap.

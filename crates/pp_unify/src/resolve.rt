@@ -1,6 +1,6 @@
 //! Terms with all bindings in place.
 ghost use Rattle.std.specs.Prelude.{◌≡◌, ◌<◌, ◌++◌, length, IfOk, All};
-ghost use Rattle.pp_term.specs.Cells.{cells_of};
+ghost use Rattle.pp_row.specs.Cells.{cells_of};
 ghost use Rattle.pp_unify.specs.Stores.{store_of, solution};
 ghost use Rattle.pp_unify.specs.Soundness.{IsGood};
 ghost use Rattle.pp_unify.specs.Outcomes.{IsNow};
@@ -9,7 +9,7 @@ ghost use Rattle.pp_unify.specs.Writing.{top_cell, IsWritten};
 
 use crate::places::Span;
 use crate::state::{State, Value};
-use pp_term::Cell;
+use pp_row::Cell;
 use std::alloc::AllocError;
 
 impl State {

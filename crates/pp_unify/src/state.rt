@@ -3,7 +3,7 @@ ghost use Rattle.std.specs.Prelude.{◌≡◌};
 ghost use Rattle.pp_unify.specs.Values.{slot_of};
 
 use pp_domain::Domain;
-use pp_term::Cell;
+use pp_row::Cell;
 use std::alloc::Global;
 
 /// What is known of a variable: it is free, with the place of its domain (`None` for the domain `any`), or it is

@@ -2,18 +2,18 @@
 ghost use Rattle.std.specs.Prelude.{◌≡◌, ℕ, ◌<◌, ◌++◌, length, IfOk, map, Option, option_map};
 ghost use Rattle.pp_algebra.specs.Terms.{put};
 ghost use Rattle.pp_domain.specs.Sets.{set_of};
-ghost use Rattle.pp_term.specs.Columns.{sets_of};
+ghost use Rattle.pp_row.specs.Columns.{sets_of};
 ghost use Rattle.pp_unify.specs.Values.{slot_at, slot_domain};
 ghost use Rattle.pp_unify.specs.Stores.{store_of, solution};
 ghost use Rattle.pp_unify.specs.Soundness.{IsGood, IsPlace};
 ghost use Rattle.pp_unify.specs.Outcomes.{IsGrown, IsValue};
-ghost use Rattle.pp_unify.specs.States.{counted_from};
+ghost use Rattle.pp_algebra.specs.Numbered.{counted_from};
 ghost use Rattle.pp_unify.specs.Tops.{IsAmong, IsTop, cells_under};
 
 use crate::state::{Slot, State, Value};
 use indexmap::IndexSet;
 use pp_domain::Domain;
-use pp_term::{Cell, Term};
+use pp_row::{Cell, Term};
 use std::alloc::AllocError;
 
 /// A copy of a domain, where there is one.

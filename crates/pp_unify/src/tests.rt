@@ -1,13 +1,14 @@
 //! The happy paths, the worked rows of the bindings, and deep terms.
 ghost use Rattle.std.specs.Prelude.{◌↔◌, All, IfOk, IsTrue};
 ghost use Rattle.pp_algebra.specs.Rows.{IsWide};
-ghost use Rattle.pp_term.specs.Columns.{set_by};
-ghost use Rattle.pp_unify.specs.States.{present, counted_from, IsOver, IsLonger};
+ghost use Rattle.pp_row.specs.Columns.{set_by};
+ghost use Rattle.pp_unify.specs.States.{present, IsOver, IsLonger};
+ghost use Rattle.pp_algebra.specs.Numbered.{counted_from};
 ghost use Rattle.pp_unify.specs.Tops.{IsThere};
 
 use crate::Bindings;
 use pp_domain::Domain;
-use pp_term::{Cell, Given, Term};
+use pp_row::{Cell, Given, Term};
 use std::alloc::Global;
 use std::test::Fail;
 

@@ -5,12 +5,12 @@ ghost use Rattle.pp_unify.specs.Values.{cell_at, term_at, value_term};
 ghost use Rattle.pp_unify.specs.Stores.{store_of};
 ghost use Rattle.pp_unify.specs.Soundness.{IsGood, IsFixed, IsCompound};
 ghost use Rattle.pp_unify.specs.Outcomes.{IsNow, HasMet, IsLater, IsFurther, IsVerdict, met_by};
-ghost use Rattle.pp_unify.specs.States.{counted_from};
+ghost use Rattle.pp_algebra.specs.Numbered.{counted_from};
 ghost use Rattle.pp_unify.specs.Tops.{IsAmong};
 ghost use Rattle.pp_algebra.specs.Solve.{equation};
 
 use crate::state::{State, Value};
-use pp_term::{Cell, Term};
+use pp_row::{Cell, Term};
 use std::alloc::AllocError;
 
 /// What became of an equation of two terms: nothing makes them equal, they are equal, or the arguments of the

@@ -1,8 +1,8 @@
 //! Runs of small programs.
 ghost use Rattle.std.specs.Prelude.{◌≡◌, ◌<◌, ◌↔◌, IsTrue, All, IfOk, length};
 ghost use Rattle.pp_algebra.specs.Rows.{IsWide};
-ghost use Rattle.pp_term.specs.Cells.{cells_of, variables_in};
-ghost use Rattle.pp_term.specs.Columns.{set_by};
+ghost use Rattle.pp_row.specs.Cells.{cells_of, variables_in};
+ghost use Rattle.pp_row.specs.Columns.{set_by};
 ghost use Rattle.pp_term.specs.WellFormed.{AreBelow, IsClause};
 ghost use Rattle.pp_resolve.specs.Facts.{HasNoBody};
 

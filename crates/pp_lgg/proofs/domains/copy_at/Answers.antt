@@ -1,8 +1,8 @@
 use Rattle.std.proofs.Common.{◌≡◌, sym, ap, ◌∙◌, arith}
 use Rattle.std.proofs.lemmas.Result.{IfOk-weaker}
 use Rattle.pp_algebra.specs.Rows.{domain_at}
-use Rattle.pp_term.specs.Columns.{set_by, sets_of}
-use Rattle.pp_term.proofs.DomainLists.{at_within, at_past}
+use Rattle.pp_row.specs.Columns.{set_by, sets_of}
+use Rattle.pp_row.proofs.DomainLists.{at_within, at_past}
 use Rattle.pp_lgg.proofs.domains.copy_at.Goals as goal
 
 pub returns-in-Some : goal.returns-in-Some

@@ -2,8 +2,8 @@ use Rattle.std.proofs.Common.{◌≡◌, pos, [], ◌∷◌, ap, ◌∙◌}
 use Rattle.std.proofs.lemmas.Result.{IfOk-weaker}
 use Rattle.pp_algebra.specs.Rows.{domain_at}
 use Rattle.pp_algebra.specs.Least.{both, union_of}
-use Rattle.pp_term.specs.declared.cell.Cell.TheVariants.{Int}
-use Rattle.pp_term.specs.Columns.{set_by, sets_of}
+use Rattle.pp_row.specs.declared.cell.Cell.TheVariants.{Int}
+use Rattle.pp_row.specs.Columns.{set_by, sets_of}
 use Rattle.pp_lgg.specs.Pairs.{name}
 use Rattle.pp_lgg.proofs.Unions.{of_both}
 use Rattle.pp_lgg.proofs.domains.union_at.Goals as goal

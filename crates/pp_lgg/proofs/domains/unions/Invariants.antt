@@ -1,7 +1,7 @@
 use Rattle.std.proofs.Common.{◌≡◌, ◌∷◌, [], map}
 use Rattle.pp_algebra.specs.Rows.{domain_at}
 use Rattle.pp_algebra.specs.Least.{union_of}
-use Rattle.pp_term.specs.Columns.{sets_of}
+use Rattle.pp_row.specs.Columns.{sets_of}
 use Rattle.pp_lgg.specs.Pairs.{names}
 use Rattle.pp_lgg.proofs.domains.unions.Given as goal
 

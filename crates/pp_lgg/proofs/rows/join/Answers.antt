@@ -4,7 +4,7 @@ use Rattle.pp_algebra.specs.Canon.{canon}
 use Rattle.pp_algebra.specs.Least.{least_row, union_of}
 use Rattle.pp_algebra.specs.Rows.{AreWide, domain_at}
 use Rattle.std.specs.Prelude.{nat_eq}
-use Rattle.pp_term.specs.Columns.{trees_of, sets_of, pattern_by}
+use Rattle.pp_row.specs.Columns.{trees_of, sets_of, pattern_by}
 use Rattle.pp_lgg.specs.Pairs.{names}
 use Rattle.pp_lgg.proofs.Columns.{same_length, next_column, all_columns, least_again}
 use Rattle.pp_lgg.proofs.Wide.{unions_wide}

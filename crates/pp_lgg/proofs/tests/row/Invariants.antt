@@ -1,5 +1,5 @@
 use Rattle.pp_algebra.specs.Rows.{AreWide}
-use Rattle.pp_term.specs.Columns.{sets_of}
+use Rattle.pp_row.specs.Columns.{sets_of}
 use Rattle.pp_lgg.proofs.tests.row.Given as goal
 
 abbrev pub invariant-loop-range : goal.invariant-loop-range

@@ -2,8 +2,8 @@ use Rattle.std.proofs.Common.{◌+◌, length, pos, arith, ap, sym, ◌∙◌, [
 use Rattle.std.proofs.lemmas.List.Elements.{All-nil, All-push, All-get_or}
 use Rattle.pp_algebra.specs.Least.{least_tree}
 use Rattle.pp_algebra.specs.Terms.{put, count}
-use Rattle.pp_term.specs.declared.cell.Cell.TheVariants.{Int}
-use Rattle.pp_term.specs.Cells.{IsLegalCell}
+use Rattle.pp_row.specs.declared.cell.Cell.TheVariants.{Int}
+use Rattle.pp_row.specs.Cells.{IsLegalCell}
 use Rattle.pp_lgg.specs.Pairs.{names, placed}
 use Rattle.pp_lgg.proofs.Steps.{is_forest, from_start, right_too, count_cell, count_term, past_cell, past_pair, at_start, at_end, is_made, made}
 use Rattle.pp_lgg.proofs.walk.joined.Goals as goal

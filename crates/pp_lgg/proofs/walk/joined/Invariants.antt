@@ -1,8 +1,8 @@
 use Rattle.std.proofs.Common.{◌≡◌, ◌≤◌, ◌-◌, length, All, [], ◌∷◌}
 use Rattle.pp_algebra.specs.Terms.{more, none, count}
 use Rattle.pp_algebra.specs.Least.{least_tree}
-use Rattle.pp_term.specs.Cells.{IsLegalCell}
-use Rattle.pp_term.specs.Reading.{from}
+use Rattle.pp_row.specs.Cells.{IsLegalCell}
+use Rattle.pp_row.specs.Reading.{from}
 use Rattle.pp_lgg.specs.Pairs.{IsPair, names}
 use Rattle.pp_lgg.proofs.Common.{common}
 use Rattle.pp_lgg.proofs.Walked.{Walked}

@@ -1,5 +1,5 @@
 use Rattle.std.proofs.Common.{pos}
-use Rattle.pp_term.specs.declared.cell.Cell.TheVariants.{Int}
+use Rattle.pp_row.specs.declared.cell.Cell.TheVariants.{Int}
 use Rattle.pp_lgg.proofs.Steps.{one_piece}
 use Rattle.pp_lgg.proofs.walk.term_at.Goals as goal
 

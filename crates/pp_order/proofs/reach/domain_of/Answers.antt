@@ -1,7 +1,7 @@
 use Rattle.std.proofs.Common.{◌≡◌, arith, ap, ◌∙◌, sym}
 use Rattle.pp_algebra.specs.Rows.{domain_at}
-use Rattle.pp_term.specs.Columns.{set_by, sets_of}
-use Rattle.pp_term.proofs.DomainLists.{at_within, at_past}
+use Rattle.pp_row.specs.Columns.{set_by, sets_of}
+use Rattle.pp_row.proofs.DomainLists.{at_within, at_past}
 use Rattle.pp_order.proofs.Reaching.{behind}
 use Rattle.pp_order.proofs.reach.domain_of.Goals as goal
 

@@ -1,7 +1,7 @@
 use Rattle.std.proofs.Common.{◌≡◌}
 use Rattle.pp_algebra.specs.Rows.{domain_at}
 use Rattle.pp_domain.specs.Sets.{set_of}
-use Rattle.pp_term.specs.Columns.{sets_of}
+use Rattle.pp_row.specs.Columns.{sets_of}
 use Rattle.pp_order.proofs.Reaching.{within_told}
 use Rattle.pp_order.proofs.reach.is_within.Goals as goal
 

@@ -2,7 +2,7 @@ use Rattle.std.proofs.Common.{◌≡◌, ◌+◌, ◌<◌, ℕ, [], length, drop
 use Rattle.std.proofs.Math.ListN.{length-map}
 use Rattle.pp_algebra.specs.Terms.{variables, variables_all}
 use Rattle.pp_algebra.specs.Rows.{domain_at, IsNumbered}
-use Rattle.pp_term.specs.Columns.{sets_of, trees_of}
+use Rattle.pp_row.specs.Columns.{sets_of, trees_of}
 use Rattle.pp_order.specs.Bindings.{terms, term_of}
 use Rattle.pp_order.proofs.Walking.{at_end}
 use Rattle.pp_order.proofs.Columns.{same_length, columns_from, column_numbered, past_column, other_column, all_columns, taken, covered}

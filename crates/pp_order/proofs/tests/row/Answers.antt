@@ -1,4 +1,4 @@
-use Rattle.pp_term.proofs.DomainLists.{wide_push}
+use Rattle.pp_row.proofs.DomainLists.{wide_push}
 use Rattle.pp_order.proofs.tests.row.Goals as goal
 
 pub loop-range-preserved : goal.loop-range-preserved

@@ -1,14 +1,14 @@
 use Rattle.std.proofs.Common.{◌≡◌, ◌+◌, ◌<◌, ℕ, length, pos, arith, refl, ap, sym, ◌∙◌, subst, get_or, true, false}
 use Rattle.std.proofs.Math.ListN.{length-map}
 use Rattle.std.specs.Prelude.{not}
-use Rattle.pp_term.specs.contracts.cell.CellPartialEq.TheImpl.{eq-value}
+use Rattle.pp_row.specs.contracts.cell.CellPartialEq.TheImpl.{eq-value}
 use Rattle.pp_algebra.specs.Terms.{count, variables}
 use Rattle.pp_algebra.specs.Rows.{domain_at, IsNumbered}
 use Rattle.pp_algebra.specs.Least.{first, rest}
-use Rattle.pp_term.specs.declared.cell.Cell.TheVariants.{Int, Var}
-use Rattle.pp_term.specs.Columns.{sets_of}
-use Rattle.pp_term.specs.Reading.{from, tree_of}
-use Rattle.pp_term.proofs.Next.{next}
+use Rattle.pp_row.specs.declared.cell.Cell.TheVariants.{Int, Var}
+use Rattle.pp_row.specs.Columns.{sets_of}
+use Rattle.pp_row.specs.Reading.{from, tree_of}
+use Rattle.pp_row.proofs.Next.{next}
 use Rattle.pp_order.specs.Bindings.{terms}
 use Rattle.pp_order.proofs.Steps.{is_forest, from_start, right_too, count_cell, count_term, nothing_left}
 use Rattle.pp_order.proofs.Taking.{ahead_variable, ahead_term, cells_equal, cells_differ}

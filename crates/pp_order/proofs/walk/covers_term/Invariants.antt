@@ -1,8 +1,8 @@
 use Rattle.std.proofs.Common.{◌≡◌, ◌≤◌, length}
 use Rattle.pp_algebra.specs.Terms.{more, none, count}
 use Rattle.pp_algebra.specs.Rows.{domain_at}
-use Rattle.pp_term.specs.Columns.{sets_of}
-use Rattle.pp_term.specs.Reading.{from}
+use Rattle.pp_row.specs.Columns.{sets_of}
+use Rattle.pp_row.specs.Reading.{from}
 use Rattle.pp_order.specs.Bindings.{AreBound, terms}
 use Rattle.pp_order.proofs.Walking.{Walked}
 use Rattle.pp_order.proofs.walk.covers_term.Given as goal

@@ -1,5 +1,5 @@
 use Rattle.std.proofs.Common.{pos}
-use Rattle.pp_term.specs.declared.cell.Cell.TheVariants.{Int}
+use Rattle.pp_row.specs.declared.cell.Cell.TheVariants.{Int}
 use Rattle.pp_order.proofs.Steps.{one_piece, nothing_left}
 use Rattle.pp_order.proofs.Taking.{past_cell, before_cell, no_cell}
 use Rattle.pp_order.proofs.walk.term_at.Goals as goal

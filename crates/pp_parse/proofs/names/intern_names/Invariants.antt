@@ -2,7 +2,7 @@ use Rattle.std.proofs.Common.{◌≡◌, drop}
 use Rattle.std.specs.Prelude.{[]}
 use Rattle.std.specs.List.{flat_map}
 use Rattle.pp_algebra.specs.Canon.{firsts}
-use Rattle.pp_language.specs.Texts.{same_text}
+use Rattle.pp_algebra.specs.Texts.{same_text}
 use Rattle.pp_parse.specs.Words.{words_of, texts_in}
 use Rattle.pp_parse.proofs.names.intern_names.Given as goal
 

@@ -1,6 +1,6 @@
 use Rattle.std.proofs.Common.{ap, ◌∙◌}
 use Rattle.std.specs.Prelude.{codes}
-use Rattle.pp_language.specs.Texts.{same_text}
+use Rattle.pp_algebra.specs.Texts.{same_text}
 use Rattle.pp_parse.proofs.Directives.{directive_told}
 use Rattle.pp_parse.proofs.statement.is_directive.Goals as goal
 

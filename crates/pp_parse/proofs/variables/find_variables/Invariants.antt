@@ -1,7 +1,7 @@
 use Rattle.std.proofs.Common.{◌≡◌, ◌+◌, ◌≤◌, drop}
 use Rattle.std.specs.Prelude.{[]}
 use Rattle.pp_algebra.specs.Canon.{firsts}
-use Rattle.pp_language.specs.Texts.{same_text}
+use Rattle.pp_algebra.specs.Texts.{same_text}
 use Rattle.pp_parse.specs.Words.{words_of, named_in, blanks_in}
 use Rattle.pp_parse.proofs.variables.find_variables.Given as goal
 

@@ -1,5 +1,5 @@
 use Rattle.std.proofs.Common.{ap, ◌∙◌, length, arith}
-use Rattle.pp_term.specs.Cells.{cells_of}
+use Rattle.pp_row.specs.Cells.{cells_of}
 use Rattle.pp_print.proofs.Marked.{written_back, marks_more}
 use Rattle.pp_print.proofs.occurring.occurring.Goals as goal
 

@@ -1,6 +1,6 @@
 use Rattle.std.proofs.Common.{◌≡◌, ◌++◌, drop}
 use Rattle.pp_language.specs.Printing.{ranged_texts}
-use Rattle.pp_term.specs.Columns.{sets_of}
+use Rattle.pp_row.specs.Columns.{sets_of}
 use Rattle.pp_print.proofs.Listed.{listed}
 use Rattle.pp_print.proofs.rows.write_domains.Given as goal
 

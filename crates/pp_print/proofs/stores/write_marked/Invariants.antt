@@ -1,6 +1,6 @@
 use Rattle.std.proofs.Common.{◌≡◌, ◌++◌, drop}
 use Rattle.pp_language.specs.Answers.{lines}
-use Rattle.pp_term.specs.Columns.{sets_of}
+use Rattle.pp_row.specs.Columns.{sets_of}
 use Rattle.pp_print.specs.Marks.{marked_lines}
 use Rattle.pp_print.proofs.stores.write_marked.Given as goal
 

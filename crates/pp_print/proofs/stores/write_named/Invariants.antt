@@ -3,7 +3,7 @@ use Rattle.std.specs.Slice.Iter.{iter_rest}
 use Rattle.std.specs.Iterator.Adapters.{zip_first, zip_second}
 use Rattle.pp_language.specs.Printing.{name_at}
 use Rattle.pp_language.specs.Answers.{lines, named_lines}
-use Rattle.pp_term.specs.Columns.{trees_of}
+use Rattle.pp_row.specs.Columns.{trees_of}
 use Rattle.pp_print.proofs.stores.write_named.Given as goal
 
 abbrev pub invariant-loop-name : goal.invariant-loop-name

@@ -1,5 +1,5 @@
 use Rattle.std.proofs.Common.{◌≡◌, map}
-use Rattle.pp_term.specs.Meanings.{item_of}
+use Rattle.pp_read.specs.Meanings.{item_of}
 use Rattle.pp_read.specs.Values.{item_from}
 use Rattle.pp_read.proofs.goals.items.Given as goal
 

@@ -1,6 +1,7 @@
 use Rattle.std.proofs.Common.{ap, ◌∙◌, arith}
-use Rattle.pp_term.specs.Reading.{join, from}
-use Rattle.pp_term.specs.Columns.{trees_of}
+use Rattle.pp_row.specs.Reading.{from}
+use Rattle.pp_algebra.specs.Terms.{join}
+use Rattle.pp_row.specs.Columns.{trees_of}
 use Rattle.pp_read.proofs.Arguments.{is_forest, some_cells, arguments_from, argument, argument_pushed, arguments_whole}
 use Rattle.pp_read.proofs.terms.copy_arguments.Goals as goal
 

@@ -1,7 +1,8 @@
 use Rattle.std.proofs.Common.{◌≡◌, ◌-◌, ◌≤◌, length}
 use Rattle.pp_algebra.specs.Least.{arguments}
-use Rattle.pp_term.specs.Reading.{join, tree_of, from}
-use Rattle.pp_term.specs.Columns.{trees_of}
+use Rattle.pp_row.specs.Reading.{tree_of, from}
+use Rattle.pp_algebra.specs.Terms.{join}
+use Rattle.pp_row.specs.Columns.{trees_of}
 use Rattle.pp_read.proofs.terms.copy_arguments.Given as goal
 
 abbrev pub invariant-loop-start : goal.invariant-loop-start

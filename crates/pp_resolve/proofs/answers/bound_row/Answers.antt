@@ -1,7 +1,7 @@
 use Rattle.std.proofs.Common.{◌≡◌, ap, sym, ◌∙◌, subst, length}
 use Rattle.pp_algebra.specs.Terms.{count}
-use Rattle.pp_sld.specs.Leaves.{variables_from}
-use Rattle.pp_term.specs.Columns.{trees_of}
+use Rattle.pp_algebra.specs.Numbered.{variables_from}
+use Rattle.pp_row.specs.Columns.{trees_of}
 use Rattle.pp_unify.specs.States.{present}
 use Rattle.pp_resolve.specs.Matching.{IsAnswer}
 use Rattle.pp_resolve.proofs.Folded.{count-trees_of}

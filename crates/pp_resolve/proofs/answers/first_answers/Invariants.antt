@@ -1,5 +1,5 @@
 use Rattle.std.proofs.Common.{◌≡◌, take}
-use Rattle.pp_sld.specs.Leaves.{call}
+use Rattle.pp_algebra.specs.Numbered.{call}
 use Rattle.pp_unify.specs.States.{present}
 use Rattle.pp_resolve.proofs.Search.{Brought}
 use Rattle.pp_resolve.proofs.answers.first_answers.Given as goal

@@ -1,5 +1,5 @@
 use Rattle.std.proofs.Common.{◌≡◌, take}
-use Rattle.pp_term.specs.Columns.{sets_of}
+use Rattle.pp_row.specs.Columns.{sets_of}
 use Rattle.pp_unify.specs.States.{present}
 use Rattle.pp_resolve.specs.Unifying.{free_row}
 use Rattle.pp_resolve.proofs.answers.free_bindings.Given as goal

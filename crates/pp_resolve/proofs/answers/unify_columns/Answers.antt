@@ -1,6 +1,7 @@
 use Rattle.std.proofs.Common.{sym, subst, arith}
 use Rattle.pp_algebra.specs.Solve.{equation}
-use Rattle.pp_unify.specs.States.{present, counted_from, IsOver, IsSolvedBy}
+use Rattle.pp_unify.specs.States.{present, IsOver, IsSolvedBy}
+use Rattle.pp_algebra.specs.Numbered.{counted_from}
 use Rattle.pp_unify.specs.Laws.{item_in}
 use Rattle.pp_resolve.proofs.Columns.{left_next, over_still, longer_through}
 use Rattle.pp_resolve.proofs.answers.unify_columns.Goals as goal

@@ -3,7 +3,7 @@ use Rattle.std.proofs.lemmas.List.{take_all}
 use Rattle.std.proofs.Math.ListN.{length-map}
 use Rattle.std.proofs.lemmas.List.Elements.{All-nil, All-same}
 use Rattle.pp_algebra.specs.Terms.{count}
-use Rattle.pp_term.specs.Columns.{set_by}
+use Rattle.pp_row.specs.Columns.{set_by}
 use Rattle.pp_term.specs.WellFormed.{AreBelow, IsGoal}
 use Rattle.pp_resolve.proofs.Folded.{count-trees_of}
 use Rattle.pp_resolve.proofs.Answered.{columns_below}

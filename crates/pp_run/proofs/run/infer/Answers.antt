@@ -1,6 +1,6 @@
 use Rattle.std.proofs.Common.{◌≡◌, suc, length, Some, true, ap, sym, ◌∙◌, subst}
 use Rattle.pp_algebra.specs.Least.{least_list}
-use Rattle.pp_sld.specs.Leaves.{call}
+use Rattle.pp_algebra.specs.Numbered.{call}
 use Rattle.pp_sld.specs.Verdicts.{same, narrow}
 use Rattle.pp_term.specs.Meanings.{predicate_of, program}
 use Rattle.pp_resolve.specs.Facts.{HaveWidth}

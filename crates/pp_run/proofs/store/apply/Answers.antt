@@ -7,9 +7,10 @@ use Rattle.pp_algebra.specs.Terms.{Tree, Trees, put, put_all, count, variables_a
 use Rattle.pp_algebra.specs.Rows.{IsWide}
 use Rattle.pp_algebra.specs.Covers.{IsIn}
 use Rattle.pp_algebra.specs.Canon.{firsts}
-use Rattle.pp_propagation.specs.Stores.{column, face_variables}
-use Rattle.pp_term.specs.Columns.{trees_of, sets_of, set_by}
-use Rattle.pp_term.specs.Substitution.{term_at}
+use Rattle.pp_propagation.specs.Stores.{face_variables}
+use Rattle.pp_algebra.specs.Numbered.{column}
+use Rattle.pp_row.specs.Columns.{trees_of, sets_of, set_by}
+use Rattle.pp_row.specs.Substitution.{term_at}
 use Rattle.pp_run.specs.RunStores.{replacement, below}
 use Rattle.pp_run.proofs.StoreRows.{numbered_below, count-trees_of, put-trees_of, goal_with, apply_now}
 use Rattle.pp_run.proofs.store.apply.Goals as goal

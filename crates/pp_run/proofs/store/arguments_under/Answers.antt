@@ -2,7 +2,7 @@ use Rattle.std.proofs.Common.{◌≡◌, ℕ, ◌<◌, length, map, arith, ap, s
 use Rattle.std.proofs.lemmas.List.{take_all}
 use Rattle.pp_algebra.specs.Terms.{put, count, variables}
 use Rattle.pp_algebra.specs.Covers.{IsIn}
-use Rattle.pp_propagation.specs.Stores.{column}
+use Rattle.pp_algebra.specs.Numbered.{column}
 use Rattle.pp_run.proofs.StoreRows.{map_next, under_is, IsIn-terms, count-trees_of}
 use Rattle.pp_run.proofs.store.arguments_under.Goals as goal
 

@@ -1,6 +1,6 @@
 use Rattle.std.proofs.Common.{◌≡◌, map, take}
 use Rattle.pp_algebra.specs.Terms.{put}
-use Rattle.pp_propagation.specs.Stores.{column}
+use Rattle.pp_algebra.specs.Numbered.{column}
 use Rattle.pp_run.proofs.store.arguments_under.Given as goal
 
 abbrev pub invariant-loop-argument : goal.invariant-loop-argument

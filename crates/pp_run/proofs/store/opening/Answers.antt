@@ -1,8 +1,8 @@
 use Rattle.std.proofs.Common.{◌≡◌, arith, add-one, subst}
 use Rattle.std.proofs.lemmas.Result.{IfOk-weaker}
-use Rattle.pp_sld.specs.Leaves.{variables_from}
-use Rattle.pp_term.specs.Columns.{trees_of}
-use Rattle.pp_term.proofs.ColumnLists.{from_push}
+use Rattle.pp_algebra.specs.Numbered.{variables_from}
+use Rattle.pp_row.specs.Columns.{trees_of}
+use Rattle.pp_row.proofs.ColumnLists.{from_push}
 use Rattle.pp_run.proofs.StoreRows.{opened}
 use Rattle.pp_run.proofs.store.opening.Goals as goal
 

@@ -1,6 +1,6 @@
 use Rattle.std.proofs.Common.{◌≡◌}
-use Rattle.pp_sld.specs.Leaves.{variables_from}
-use Rattle.pp_term.specs.Columns.{trees_of}
+use Rattle.pp_algebra.specs.Numbered.{variables_from}
+use Rattle.pp_row.specs.Columns.{trees_of}
 use Rattle.pp_run.proofs.store.opening.Given as goal
 
 abbrev pub invariant-loop-variable : goal.invariant-loop-variable

@@ -1,6 +1,6 @@
 use Rattle.std.proofs.Common.{◌≡◌, map, take}
 use Rattle.pp_algebra.specs.Terms.{put}
-use Rattle.pp_term.specs.Substitution.{term_at}
+use Rattle.pp_row.specs.Substitution.{term_at}
 use Rattle.pp_run.proofs.store.replaced.Given as goal
 
 abbrev pub invariant-loop-column : goal.invariant-loop-column

@@ -5,8 +5,8 @@ use Rattle.pp_algebra.specs.Canon.{has, place}
 use Rattle.pp_algebra.specs.Covers.{IsIn}
 use Rattle.pp_algebra.specs.Terms.{variables}
 use Rattle.pp_algebra.proofs.CanonLemmas.{nat_eq-IsSame}
-use Rattle.pp_term.specs.Columns.{trees_of}
-use Rattle.pp_term.proofs.Keys.{any_has, position_place, position_some, has_none, map_same}
+use Rattle.pp_row.specs.Columns.{trees_of}
+use Rattle.pp_row.proofs.Keys.{any_has, position_place, position_some, has_none, map_same}
 use Rattle.pp_run.proofs.StoreRows.{IsIn-terms, replaced_old, replaced_new}
 use Rattle.pp_run.proofs.store.replacement.Goals as goal
 

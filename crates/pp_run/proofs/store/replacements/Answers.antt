@@ -1,4 +1,4 @@
-use Rattle.pp_term.specs.Columns.{trees_of}
+use Rattle.pp_row.specs.Columns.{trees_of}
 use Rattle.pp_run.specs.RunStores.{replacement}
 use Rattle.pp_run.proofs.StoreRows.{below_next}
 use Rattle.pp_run.proofs.store.replacements.Goals as goal

@@ -1,5 +1,5 @@
 use Rattle.std.proofs.Common.{◌≡◌, map}
-use Rattle.pp_term.specs.Columns.{trees_of}
+use Rattle.pp_row.specs.Columns.{trees_of}
 use Rattle.pp_run.specs.RunStores.{replacement, below}
 use Rattle.pp_run.proofs.store.replacements.Given as goal
 

@@ -1,8 +1,8 @@
 use Rattle.std.proofs.Common.{sym, ap, ◌∙◌}
 use Rattle.std.specs.Prelude.{nat_eq}
 use Rattle.pp_algebra.specs.Canon.{firsts}
-use Rattle.pp_term.specs.Cells.{variables_in}
-use Rattle.pp_term.proofs.Keys.{taken_number}
+use Rattle.pp_row.specs.Cells.{variables_in}
+use Rattle.pp_row.proofs.Keys.{taken_number}
 use Rattle.pp_run.proofs.store.take_variable.Goals as goal
 
 pub returns-in_ok-insert : goal.returns-in_ok-insert

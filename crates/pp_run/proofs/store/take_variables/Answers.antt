@@ -2,10 +2,11 @@ use Rattle.std.proofs.Common.{◌≡◌, ◌+◌, ◌<◌, [], ◌∷◌, ◌++�
 use Rattle.std.specs.Prelude.{nat_eq}
 use Rattle.std.proofs.lemmas.List.{take_more}
 use Rattle.pp_algebra.specs.Canon.{firsts}
-use Rattle.pp_term.proofs.Numbering.{firsts-append}
-use Rattle.pp_term.proofs.Renaming.{variables_among, among-append}
-use Rattle.pp_term.specs.declared.cell.Cell.{Cell}
-use Rattle.pp_term.specs.Cells.{variables_in}
+use Rattle.pp_row.proofs.Numbering.{firsts-append}
+use Rattle.pp_row.proofs.Renaming.{among-append}
+use Rattle.pp_row.specs.Cells.{variables_among}
+use Rattle.pp_row.specs.declared.cell.Cell.{Cell}
+use Rattle.pp_row.specs.Cells.{variables_in}
 use Rattle.pp_run.proofs.store.take_variables.Goals as goal
 
 next : (cs : List Cell) (i : ℕ) (d : Cell) (old names new : List ℕ) → i < length cs → names ≡ firsts nat_eq old (variables_among (take i cs)) → new ≡ firsts nat_eq names (variables_in (get_or cs i d)) → new ≡ firsts nat_eq old (variables_among (take (i + 1) cs))

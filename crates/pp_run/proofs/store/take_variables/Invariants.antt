@@ -1,7 +1,7 @@
 use Rattle.std.proofs.Common.{◌≡◌, take}
 use Rattle.std.specs.Prelude.{nat_eq}
 use Rattle.pp_algebra.specs.Canon.{firsts}
-use Rattle.pp_term.proofs.Renaming.{variables_among}
+use Rattle.pp_row.specs.Cells.{variables_among}
 use Rattle.pp_run.proofs.store.take_variables.Given as goal
 
 abbrev pub invariant-loop-cell : goal.invariant-loop-cell

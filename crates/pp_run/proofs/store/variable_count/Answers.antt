@@ -1,6 +1,6 @@
 use Rattle.std.proofs.Common.{◌≡◌, length, sym, ap, ◌∙◌, rules}
 use Rattle.std.proofs.Math.ListN.{length-map}
-use Rattle.pp_term.specs.Columns.{set_by}
+use Rattle.pp_row.specs.Columns.{set_by}
 use Rattle.pp_run.proofs.store.variable_count.Goals as goal
 
 pub returns : goal.returns

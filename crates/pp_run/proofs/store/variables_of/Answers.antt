@@ -2,7 +2,8 @@ use Rattle.std.proofs.Common.{◌<◌, length, ap, sym, ◌∙◌, arith}
 use Rattle.std.specs.Prelude.{nat_eq}
 use Rattle.pp_algebra.specs.Canon.{firsts}
 use Rattle.pp_algebra.specs.Terms.{variables}
-use Rattle.pp_term.proofs.Renaming.{variables_among, among-cells_of}
+use Rattle.pp_row.proofs.Renaming.{among-cells_of}
+use Rattle.pp_row.specs.Cells.{variables_among}
 use Rattle.pp_run.proofs.StoreRows.{names_next}
 use Rattle.pp_run.proofs.store.variables_of.Goals as goal
 

@@ -1,6 +1,6 @@
 use Rattle.std.proofs.Common.{◌≡◌, map, drop}
 use Rattle.pp_sld.specs.BuiltIns.{has_other}
-use Rattle.pp_term.specs.Meanings.{given_of}
+use Rattle.pp_row.specs.Givens.{given_of}
 use Rattle.pp_tests.proofs.table.has_other.Given as goal
 
 abbrev pub invariant-loop-value : goal.invariant-loop-value

@@ -1,6 +1,6 @@
 use Rattle.std.proofs.Common.{◌+◌, ap, sym, ◌∙◌, subst}
 use Rattle.std.specs.Prelude.{IfOk}
-use Rattle.pp_term.specs.Cells.{head_of}
+use Rattle.pp_row.specs.Cells.{head_of}
 use Rattle.pp_language.specs.Phrases.{no_phrases, said}
 use Rattle.pp_language.specs.PartsOf.{with_word}
 use Rattle.pp_parse.specs.Reading.{Follows, IsHead, Holds}

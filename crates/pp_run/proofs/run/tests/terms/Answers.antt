@@ -3,11 +3,12 @@ use Rattle.std.proofs.lemmas.List.Elements.{All-head, All-tail}
 use Rattle.pp_algebra.specs.Terms.{Tree, variables, variables_all}
 use Rattle.pp_algebra.specs.Covers.{IsIn}
 use Rattle.pp_algebra.proofs.Antisym.{IsIn-either}
-use Rattle.pp_term.specs.declared.cell.Cell.{Cell}
-use Rattle.pp_term.specs.Cells.{cells_of, variables_in}
-use Rattle.pp_term.specs.Columns.{trees_of}
+use Rattle.pp_row.specs.declared.cell.Cell.{Cell}
+use Rattle.pp_row.specs.Cells.{cells_of, variables_in}
+use Rattle.pp_row.specs.Columns.{trees_of}
 use Rattle.pp_term.specs.WellFormed.{AreBelow}
-use Rattle.pp_term.proofs.Renaming.{variables_among, among-cells_of}
+use Rattle.pp_row.proofs.Renaming.{among-cells_of}
+use Rattle.pp_row.specs.Cells.{variables_among}
 use Rattle.pp_run.proofs.StoreRows.{variables-push}
 use Rattle.pp_run.proofs.run.tests.terms.Goals as goal
 

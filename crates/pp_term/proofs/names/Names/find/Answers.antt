@@ -1,7 +1,7 @@
 use Rattle.std.proofs.Common.{◌≡◌, true, false, ap, sym, ◌∙◌}
 use Rattle.pp_algebra.specs.Canon.{has, place}
-use Rattle.pp_term.specs.Texts.{same_text}
-use Rattle.pp_term.proofs.Keys.{same_text-IsSame, any_has, position_place, position_some, has_none}
+use Rattle.pp_algebra.specs.Texts.{same_text}
+use Rattle.pp_row.proofs.Keys.{same_text-IsSame, any_has, position_place, position_some, has_none}
 use Rattle.pp_term.proofs.names.Names.find.Goals as goal
 
 pub returns-in-Some : goal.returns-in-Some

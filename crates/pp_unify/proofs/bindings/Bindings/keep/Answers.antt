@@ -2,7 +2,8 @@ use Rattle.std.proofs.Common.{◌≡◌, length, refl, sym, ap, ◌∙◌, subst
 use Rattle.std.proofs.lemmas.Result.{IfOk-weaker}
 use Rattle.pp_algebra.specs.Terms.{count}
 use Rattle.pp_unify.specs.Outcomes.{IsAddedAs}
-use Rattle.pp_unify.specs.States.{present, states_of, in_place, counted_from, with_value, IsLonger}
+use Rattle.pp_unify.specs.States.{present, states_of, in_place, with_value, IsLonger}
+use Rattle.pp_algebra.specs.Numbered.{counted_from}
 use Rattle.pp_unify.specs.Tops.{IsAmong}
 use Rattle.pp_unify.proofs.Keeping.{kept_through}
 use Rattle.pp_unify.proofs.Kept.{kept_longer}

@@ -2,7 +2,7 @@ use Rattle.std.proofs.Common.{sym, ap, ◌∙◌, subst}
 use Rattle.std.specs.Prelude.{nat_eq}
 use Rattle.pp_algebra.specs.Canon.{firsts}
 use Rattle.pp_algebra.specs.Terms.{put, variables}
-use Rattle.pp_term.proofs.Numbering.{placed}
+use Rattle.pp_row.proofs.Numbering.{placed}
 use Rattle.pp_unify.specs.Stores.{solution}
 use Rattle.pp_unify.specs.States.{present, IsOver}
 use Rattle.pp_unify.proofs.Verdicts.{over_among}

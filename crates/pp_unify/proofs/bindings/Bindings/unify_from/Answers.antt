@@ -2,7 +2,8 @@ use Rattle.std.proofs.Common.{refl, subst}
 use Rattle.std.proofs.lemmas.Result.{IfOk-weaker}
 use Rattle.pp_algebra.specs.Solve.{equation, put_item}
 use Rattle.pp_unify.specs.Outcomes.{IsVerdict}
-use Rattle.pp_unify.specs.States.{present, value_in, states_of, counted_from, IsLonger, IsSolvedBy}
+use Rattle.pp_unify.specs.States.{present, value_in, states_of, IsLonger, IsSolvedBy}
+use Rattle.pp_algebra.specs.Numbered.{counted_from}
 use Rattle.pp_unify.proofs.Kept.{kept_longer}
 use Rattle.pp_unify.proofs.Verdicts.{present_row, over_among, solved_by}
 use Rattle.pp_unify.proofs.bindings.Bindings.unify_from.Goals as goal

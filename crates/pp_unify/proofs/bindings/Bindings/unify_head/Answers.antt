@@ -1,7 +1,8 @@
 use Rattle.std.proofs.Common.{sym, subst}
 use Rattle.std.specs.Prelude.{IfOk}
 use Rattle.pp_algebra.specs.Solve.{equation}
-use Rattle.pp_unify.specs.States.{present, in_place, counted_from, IsOver, IsSolvedBy}
+use Rattle.pp_unify.specs.States.{present, in_place, IsOver, IsSolvedBy}
+use Rattle.pp_algebra.specs.Numbered.{counted_from}
 use Rattle.pp_unify.proofs.Grown.{counted-zero}
 use Rattle.pp_unify.proofs.bindings.Bindings.unify_head.Goals as goal
 

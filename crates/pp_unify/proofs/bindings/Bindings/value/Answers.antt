@@ -1,7 +1,6 @@
 use Rattle.std.proofs.Common.{sym, ap, ◌∙◌}
 use Rattle.pp_domain.specs.Sets.{set_of}
-use Rattle.pp_sld.specs.BuiltIns.{integer}
-use Rattle.pp_sld.specs.Selection.{given}
+use Rattle.pp_algebra.specs.Givens.{integer, given}
 use Rattle.pp_unify.specs.States.{present}
 use Rattle.pp_unify.proofs.Words.{word}
 use Rattle.pp_unify.proofs.Verdicts.{over_among}

@@ -1,5 +1,5 @@
 use Rattle.std.proofs.Common.{◌∙◌, ap, sym}
-use Rattle.pp_term.specs.Cells.{arity_of}
+use Rattle.pp_row.specs.Cells.{arity_of}
 use Rattle.pp_unify.proofs.Forests.{cell_read}
 use Rattle.pp_unify.proofs.state.State.arity_at.Goals as goal
 

@@ -3,7 +3,7 @@ use Rattle.std.proofs.lemmas.Result.{IfOk-weaker}
 use Rattle.pp_algebra.specs.Terms.{variable, put}
 use Rattle.pp_algebra.specs.Solve.{equation}
 use Rattle.pp_unify.specs.Values.{term_at, shifted}
-use Rattle.pp_unify.specs.States.{counted_from}
+use Rattle.pp_algebra.specs.Numbered.{counted_from}
 use Rattle.pp_unify.specs.Outcomes.{IsAnswer, IsVerdict}
 use Rattle.pp_unify.proofs.Grown.{last_term}
 use Rattle.pp_unify.proofs.Keeping.{kept_through}

@@ -1,5 +1,5 @@
 use Rattle.std.proofs.Common.{◌≡◌, map}
-use Rattle.pp_term.specs.Columns.{sets_of}
+use Rattle.pp_row.specs.Columns.{sets_of}
 use Rattle.pp_unify.specs.Values.{slot_at, slot_domain}
 use Rattle.pp_unify.proofs.state.State.domains_of.Given as goal
 

@@ -1,12 +1,12 @@
 use Rattle.std.proofs.Common.{◌≡◌, ◌+◌, ◌<◌, refl, ap, sym, ◌∙◌, subst, inl, arith, length}
 use Rattle.pp_algebra.specs.Terms.{put, variables}
 use Rattle.pp_algebra.specs.Covers.{IsIn}
-use Rattle.pp_term.specs.Cells.{IsLegalCell}
+use Rattle.pp_row.specs.Cells.{IsLegalCell}
 use Rattle.pp_unify.specs.declared.state.Value.TheVariants.{Int, Atom}
 use Rattle.pp_unify.specs.Values.{shifted, term_at, cell_at}
 use Rattle.pp_unify.specs.Soundness.{IsCompound}
 use Rattle.pp_unify.specs.Stores.{store_of}
-use Rattle.pp_unify.specs.States.{counted_from}
+use Rattle.pp_algebra.specs.Numbered.{counted_from}
 use Rattle.pp_unify.specs.Outcomes.{IsValue}
 use Rattle.pp_unify.proofs.Forests.{legal_at}
 use Rattle.pp_unify.proofs.Grown.{shifted_cells, counted_term, forest_cells, cells_among, last_term, last_within, last_compound}

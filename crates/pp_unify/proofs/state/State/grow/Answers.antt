@@ -1,6 +1,6 @@
 use Rattle.std.proofs.Common.{◌≡◌, ◌++◌, ◌<◌, ◌^◌, ◌+◌, ap, refl, reverse, rules, length, length-append, arith}
 use Rattle.std.proofs.lemmas.List.{length-map}
-use Rattle.pp_term.specs.Cells.{renamed}
+use Rattle.pp_row.specs.Cells.{renamed}
 use Rattle.pp_unify.specs.Stores.{Store}
 use Rattle.pp_unify.specs.Values.{shifted}
 use Rattle.pp_unify.specs.declared.state.Entry.TheVariants.{Grown}

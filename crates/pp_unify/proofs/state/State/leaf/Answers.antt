@@ -1,8 +1,8 @@
 use Rattle.std.proofs.Common.{ap, ◌∙◌, subst}
 use Rattle.pp_algebra.specs.Terms.{put}
-use Rattle.pp_term.specs.Cells.{IsLegalCell}
+use Rattle.pp_row.specs.Cells.{IsLegalCell}
 use Rattle.pp_unify.specs.Soundness.{IsCompound}
-use Rattle.pp_unify.specs.States.{counted_from}
+use Rattle.pp_algebra.specs.Numbered.{counted_from}
 use Rattle.pp_unify.proofs.Forests.{legal_at, int_at, atom_at, variable_at}
 use Rattle.pp_unify.proofs.Words.{word}
 use Rattle.pp_unify.proofs.state.State.leaf.Goals as goal

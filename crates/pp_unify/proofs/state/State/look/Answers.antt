@@ -1,6 +1,6 @@
 use Rattle.std.proofs.Common.{◌∙◌, ap, subst, refl}
 use Rattle.pp_algebra.specs.Terms.{put}
-use Rattle.pp_term.specs.Cells.{IsLegalCell}
+use Rattle.pp_row.specs.Cells.{IsLegalCell}
 use Rattle.pp_unify.proofs.Forests.{cell_read, legal_at, variable_at, int_at, atom_at}
 use Rattle.pp_unify.proofs.Words.{word}
 use Rattle.pp_unify.proofs.state.State.look.Goals as goal

@@ -1,6 +1,6 @@
 use Rattle.std.proofs.Common.{◌+◌, ◌<◌, refl, arith}
 use Rattle.pp_unify.specs.Values.{term_at, value_term}
-use Rattle.pp_unify.specs.States.{counted_from}
+use Rattle.pp_algebra.specs.Numbered.{counted_from}
 use Rattle.pp_unify.proofs.HeadSteps.{gone_past, leaf_next, same_heap}
 use Rattle.pp_unify.proofs.Equations.{verdict_same, alike_itself}
 use Rattle.pp_unify.proofs.state.State.meet_head.Goals as goal

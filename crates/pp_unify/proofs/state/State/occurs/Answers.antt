@@ -1,9 +1,8 @@
 use Rattle.std.proofs.Common.{◌≡◌, ℕ, ◌++◌, [], ◌∷◌, ap, sym, ◌∙◌, subst, refl}
 use Rattle.std.proofs.lemmas.List.Elements.{All-push, All-nil}
-use Rattle.pp_algebra.specs.Terms.{Trees}
+use Rattle.pp_algebra.specs.Terms.{Trees, join}
 use Rattle.pp_algebra.specs.Covers.{IsIn}
 use Rattle.pp_algebra.specs.Least.{rest}
-use Rattle.pp_term.specs.Reading.{join}
 use Rattle.pp_unify.specs.Values.{term_at, value_term}
 use Rattle.pp_unify.specs.Stores.{store_of, solution}
 use Rattle.pp_unify.specs.Spans.{IsSpan, span_terms, terms_of}

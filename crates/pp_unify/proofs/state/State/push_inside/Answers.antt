@@ -1,6 +1,6 @@
 use Rattle.std.proofs.Common.{◌∙◌, ap, sym, arith}
-use Rattle.pp_term.specs.Reading.{join}
-use Rattle.pp_term.proofs.Next.{join-join}
+use Rattle.pp_algebra.specs.Terms.{join}
+use Rattle.pp_algebra.proofs.Joined.{join-join}
 use Rattle.pp_algebra.specs.Least.{rest, arguments}
 use Rattle.pp_unify.specs.Values.{term_at}
 use Rattle.pp_unify.specs.Spans.{span_terms, terms_of}

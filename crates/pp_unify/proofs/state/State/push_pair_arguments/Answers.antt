@@ -1,5 +1,5 @@
 use Rattle.std.proofs.Common.{◌+◌, ap, ◌∙◌, subst}
-use Rattle.pp_term.specs.Cells.{arity_of}
+use Rattle.pp_row.specs.Cells.{arity_of}
 use Rattle.pp_unify.specs.Soundness.{IsCompound}
 use Rattle.pp_unify.proofs.Work.{argument_span, argument_terms}
 use Rattle.pp_unify.proofs.Pairs.{pushes_pair}

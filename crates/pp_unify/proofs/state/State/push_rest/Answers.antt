@@ -1,5 +1,5 @@
 use Rattle.std.proofs.Common.{◌∙◌, ap}
-use Rattle.pp_term.specs.Reading.{join}
+use Rattle.pp_algebra.specs.Terms.{join}
 use Rattle.pp_unify.specs.Spans.{terms_of}
 use Rattle.pp_unify.proofs.Work.{terms_of-push, rest_terms}
 use Rattle.pp_unify.proofs.state.State.push_rest.Goals as goal

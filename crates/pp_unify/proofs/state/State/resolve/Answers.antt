@@ -1,11 +1,10 @@
 use Rattle.std.proofs.Common.{◌≡◌, [], ◌∷◌, ◌++◌, ◌∙◌, refl, ap, sym, append-nil, arith}
-use Rattle.pp_term.specs.Cells.{cells_of}
-use Rattle.pp_term.specs.Reading.{join}
+use Rattle.pp_row.specs.Cells.{cells_of}
 use Rattle.pp_algebra.specs.Least.{rest}
-use Rattle.pp_algebra.specs.Terms.{put}
+use Rattle.pp_algebra.specs.Terms.{put, join, size}
 use Rattle.pp_unify.specs.Values.{cell_at, term_at, value_term}
 use Rattle.pp_unify.specs.Stores.{store_of, solution}
-use Rattle.pp_unify.specs.Spans.{span_terms, terms_of, size}
+use Rattle.pp_unify.specs.Spans.{span_terms, terms_of}
 use Rattle.pp_unify.specs.Writing.{written}
 use Rattle.pp_unify.proofs.Work.{all_pop}
 use Rattle.pp_unify.proofs.Walk.{popped, taken, opened_at, sizes_term}

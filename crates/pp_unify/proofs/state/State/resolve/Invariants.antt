@@ -1,5 +1,5 @@
 use Rattle.std.proofs.Common.{◌≡◌, ◌++◌, All}
-use Rattle.pp_term.specs.Cells.{cells_of}
+use Rattle.pp_row.specs.Cells.{cells_of}
 use Rattle.pp_unify.specs.Stores.{solution}
 use Rattle.pp_unify.specs.Spans.{IsSpan, terms_of, sizes}
 use Rattle.pp_unify.specs.Writing.{written}

@@ -1,7 +1,7 @@
 use Rattle.std.proofs.Common.{refl, sym, subst, inl}
 use Rattle.pp_algebra.specs.Terms.{put, variables}
 use Rattle.pp_algebra.specs.Covers.{IsIn}
-use Rattle.pp_term.specs.Cells.{IsLegalCell}
+use Rattle.pp_row.specs.Cells.{IsLegalCell}
 use Rattle.pp_unify.specs.declared.state.Value.TheVariants.{Int, Atom, Compound}
 use Rattle.pp_unify.specs.Stores.{solution}
 use Rattle.pp_unify.specs.Tops.{IsTop}

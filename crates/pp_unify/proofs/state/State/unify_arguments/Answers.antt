@@ -1,5 +1,5 @@
 use Rattle.std.proofs.Common.{◌≡◌, ◌<◌, [], ◌∷◌, sym, subst, All, List, length, refl, rules}
-use Rattle.pp_term.specs.declared.cell.Cell.{Cell}
+use Rattle.pp_row.specs.declared.cell.Cell.{Cell}
 use Rattle.pp_algebra.specs.Least.{arguments}
 use Rattle.pp_unify.specs.declared.places.Pair.{Pair}
 use Rattle.pp_unify.specs.Values.{term_at}

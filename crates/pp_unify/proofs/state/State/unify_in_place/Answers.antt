@@ -1,13 +1,12 @@
 use Rattle.std.proofs.Common.{◌≡◌, ◌+◌, [], ◌∷◌, List, length, refl, ap, sym, ◌∙◌, arith, rules}
-use Rattle.pp_algebra.specs.Terms.{put, count}
+use Rattle.pp_algebra.specs.Terms.{put, count, join}
 use Rattle.pp_algebra.specs.Least.{first}
 use Rattle.pp_unify.specs.declared.places.Span.{Span}
 use Rattle.pp_unify.specs.Spans.{terms_of, span_terms}
 use Rattle.pp_algebra.specs.Least.{rest}
-use Rattle.pp_term.specs.Reading.{join}
 use Rattle.pp_unify.specs.Values.{value_term}
 use Rattle.pp_unify.specs.declared.state.Value.TheVariants.{Compound}
-use Rattle.pp_unify.specs.States.{counted_from}
+use Rattle.pp_algebra.specs.Numbered.{counted_from}
 use Rattle.pp_unify.proofs.Tops.{some_cell}
 use Rattle.pp_unify.proofs.Walk.{taken, popped}
 use Rattle.pp_unify.proofs.Work.{all_pop}

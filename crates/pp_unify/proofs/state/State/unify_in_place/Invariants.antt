@@ -2,7 +2,7 @@ use Rattle.std.proofs.Common.{All, ◌≡◌, ◌-◌, length, ℕ}
 use Rattle.std.specs.Prelude.{◌↔◌}
 use Rattle.pp_algebra.specs.Terms.{Tree, put, put_all, count}
 use Rattle.pp_algebra.specs.Rows.{Domains}
-use Rattle.pp_term.specs.Reading.{from}
+use Rattle.pp_row.specs.Reading.{from}
 use Rattle.pp_unify.specs.Values.{value_term}
 use Rattle.pp_unify.specs.Stores.{store_of}
 use Rattle.pp_unify.specs.Agreement.{Agrees, AllWide}

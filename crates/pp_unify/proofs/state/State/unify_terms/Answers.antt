@@ -2,7 +2,7 @@ use Rattle.std.proofs.Common.{sym, ap, ◌∙◌, subst, length, refl}
 use Rattle.std.proofs.lemmas.Result.{IfOk-weaker}
 use Rattle.pp_algebra.specs.Solve.{equation}
 use Rattle.pp_unify.specs.Values.{value_term}
-use Rattle.pp_unify.specs.States.{counted_from}
+use Rattle.pp_algebra.specs.Numbered.{counted_from}
 use Rattle.pp_unify.specs.Tops.{IsAmong}
 use Rattle.pp_unify.specs.Outcomes.{IsVerdict}
 use Rattle.pp_unify.proofs.Keeping.{kept_through}

@@ -1,6 +1,0 @@
-use Rattle.std.proofs.Common.{◌≡◌, take}
-use Rattle.pp_term.specs.Columns.{sets_of}
-use Rattle.pp_term.proofs.domains.same_domains.Given as goal
-
-abbrev pub invariant-loop-i : goal.invariant-loop-i
-invariant-loop-i l = take l.i (sets_of l.left) ≡ take l.i (sets_of l.right)

@@ -1,6 +1,0 @@
--- Texts by number.
-use Rattle.std.specs.Prelude.{ℕ, Bool, nat_eq, List}
-use Rattle.std.specs.Cmp.Lexicographic.{pointwise}
-
-abbrev pub same_text : List ℕ → List ℕ → Bool
-same_text = pointwise nat_eq
