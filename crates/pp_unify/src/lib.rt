@@ -12,8 +12,6 @@ mod places;
 mod resolve;
 mod state;
 mod terms;
-#[cfg(test)]
-mod tests;
 mod undo;
 mod unify;
 
