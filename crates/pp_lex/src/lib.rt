@@ -6,6 +6,8 @@ mod gap;
 mod lexed;
 mod lists;
 mod scan;
+#[cfg(test)]
+mod tests;
 
 pub use lexed::{Lexed, tokens};
 pub use lists::{Sentence, SentenceList, Sentences, Tail, Tokens};

@@ -9,6 +9,8 @@ mod occurring;
 mod rows;
 mod stores;
 mod terms;
+#[cfg(test)]
+mod tests;
 
 pub use domains::domain_text;
 pub use laws::{printed_terms_are_read_back, read_names_are_printed};

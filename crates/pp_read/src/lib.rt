@@ -9,6 +9,8 @@ mod program;
 mod progress;
 mod sentence;
 mod terms;
+#[cfg(test)]
+mod tests;
 mod text;
 
 pub use fault::ReadFault;

@@ -3,6 +3,8 @@
 
 mod answers;
 mod least;
+#[cfg(test)]
+mod tests;
 
 pub use answers::first_answers;
 pub use least::first_least;

@@ -111,3 +111,6 @@ pub(crate) fn run(
         turns,
     })
 }
+
+#[cfg(test)]
+mod tests;

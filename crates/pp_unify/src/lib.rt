@@ -12,6 +12,8 @@ mod places;
 mod resolve;
 mod state;
 mod terms;
+#[cfg(test)]
+mod tests;
 mod undo;
 mod unify;
 
