@@ -116,7 +116,11 @@ by_place_snoc P [] x h p (suc i) s e = let no : ⊥ = cc in absurd no
 by_place_snoc P (y ∷ ys) x h p zero s e = h 0 s e
 by_place_snoc P (y ∷ ys) x h p (suc i) s e = by_place_snoc (λ j. P (suc j)) ys x (λ j. h (suc j)) p i s e
 
-pub two_first : {A : Type 0} (xs : List A) (x y : A) → length xs ≡ 2 → x ≡ get_or xs 0 x → y ≡ get_or (remove xs 0) 0 y → (slice_get xs 0 ≡ Some x) × (slice_get xs 1 ≡ Some y)
-two_first [] x y n a b = absurd (omega arith)
-two_first (u ∷ []) x y n a b = absurd (omega arith)
-two_first (u ∷ v ∷ vs) x y n a b = (ap Some (sym a), ap Some (sym b))
+-- for callers that take the last seat first
+pub by_place_init : {A : Type 0} (P : ℕ → A → Type 0) (xs : List A) (x : A) → ByPlace P (xs ++ x ∷ []) → ByPlace P xs × P (length xs) x
+by_place_init P [] x h = ((λ i s e. let no : ⊥ = cc in absurd no), h 0 x refl)
+by_place_init P (y ∷ ys) x h = let r = by_place_init (λ j. P (suc j)) ys x (λ j. h (suc j)) in (case h r.0, r.1)
+  where
+    case : ByPlace P (y ∷ (ys ++ x ∷ [])) → ByPlace (λ j. P (suc j)) ys → ByPlace P (y ∷ ys)
+    case h r zero s e = h 0 s e
+    case h r (suc i) s e = r i s e
