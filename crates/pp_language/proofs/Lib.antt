@@ -17,3 +17,5 @@ pub mod CommandsRead
 pub mod CommandsMade
 pub mod CommandExamples
 pub mod GeneratorExamples
+pub mod Digits
+pub mod ReadingExamples

@@ -21,3 +21,4 @@ pub mod CommandExamples
 pub mod Generator
 pub mod Told
 pub mod GeneratorExamples
+pub mod ReadingExamples

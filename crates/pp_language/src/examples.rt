@@ -2,6 +2,7 @@
 ghost use Rattle.pp_language.specs.Examples.{AdjacentIntegersJoin, SpacedAtomIsQuoted, QuoteIsDoubled, InfersIsQuoted, PlainAtomIsPlain, CompoundIsWritten, RangesFollowColumns, NoLine, UsageLine};
 ghost use Rattle.pp_language.specs.CommandExamples.{AloneIsPlain, BothSpellings, ZerosMayLead, NumberStandsLast, TraceIsTold, OthersAreNoWords, MoreAreNoWords};
 ghost use Rattle.pp_language.specs.GeneratorExamples.{FirstNumbers, FirstAdder, LastAdder, ProgramLines, QueryOfTwo, LinesOfThree, ChangeIsTold, SummaryIsWritten, FailureIsSummed};
+ghost use Rattle.pp_language.specs.ReadingExamples.{IntegersAreSpelled, InfersIsNoAtom, QuotesAreDoubled, CommentsAreGaps, PointEndsSentence, EmptyTextLacksQuery, ClausesAreCounted, ArgumentsAreCounted, NamedVariablesComeFirst};
 
 /// How domains, atoms, terms and rows are written, and two of the fixed lines.
 pub fn worked_examples()
@@ -38,4 +39,17 @@ pub fn worked_generator()
     ensures change_is_told { ChangeIsTold }
     ensures summary_is_written { SummaryIsWritten }
     ensures failure_is_summed { FailureIsSummed }
+{}
+
+/// How texts are read: tokens, gaps, sentences, a fault, limits, and a clause.
+pub fn worked_reading()
+    ensures integers_are_spelled { IntegersAreSpelled }
+    ensures infers_is_no_atom { InfersIsNoAtom }
+    ensures quotes_are_doubled { QuotesAreDoubled }
+    ensures comments_are_gaps { CommentsAreGaps }
+    ensures point_ends_sentence { PointEndsSentence }
+    ensures empty_text_lacks_query { EmptyTextLacksQuery }
+    ensures clauses_are_counted { ClausesAreCounted }
+    ensures arguments_are_counted { ArgumentsAreCounted }
+    ensures named_variables_come_first { NamedVariablesComeFirst }
 {}

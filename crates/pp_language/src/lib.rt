@@ -7,12 +7,13 @@ mod command;
 mod examples;
 mod laws;
 mod limits;
+mod spelling;
 mod status;
 mod token;
 mod which;
 
 pub use command::{Command, CommandKind, Settings};
-pub use examples::{worked_commands, worked_examples, worked_generator};
+pub use examples::{worked_commands, worked_examples, worked_generator, worked_reading};
 pub use laws::{
     command_is_unique, first_fault_is_unique, program_is_unique, statement_is_unique,
     tokenisation_is_unique,
@@ -22,6 +23,7 @@ pub use limits::{
     DEFAULT_TURNS, DEFAULT_WORKERS, DEPTH_LIMIT, GOAL_LIMIT, MAKE_LIMIT, QUERY_VARIABLE_LIMIT,
     TEXT_LIMIT, TURN_LIMIT, WORKER_LIMIT,
 };
+pub use spelling::{is_digit, is_lower, is_word, number_of};
 pub use status::Status;
 pub use token::{Kind, Token};
 pub use which::Which;

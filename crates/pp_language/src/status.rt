@@ -2,18 +2,28 @@
 ghost use Rattle.std.specs.Prelude.{◌≡◌};
 ghost use Rattle.pp_language.specs.Statuses.{code_of};
 
-/// How a call of the program ended. `Unbuilt` says that the text is not of a form that is built yet.
+/// How a call of the program ended.
 #[derive(Clone, Copy, Debug, PartialEq, Eq)]
 pub enum Status {
+    /// No goal waits any longer, and none failed.
     Yes,
+    /// A goal failed, or the query's equations have no solution.
     No,
+    /// The words ask for no command.
     Usage,
+    /// A sentence of the text is at fault.
     Syntax,
+    /// The set number of turns was made, and a goal still waits.
     Stopped,
+    /// The text passes a limit.
     Limit,
+    /// The source failed.
     ReadFault,
+    /// The sink failed: what was to be written was written in part.
     WriteFault,
+    /// There was no memory: nothing was written.
     Memory,
+    /// The text is of a form that is not built yet.
     Unbuilt,
 }
 

@@ -24,7 +24,7 @@ pub record IsLongestRest (text : Text) (n : ℕ) : Type 0 where
 abbrev pub HasNoRest : Text → Type 0
 HasNoRest text = (m : ℕ) → m ≤ length text → is_quoted_rest (take m text) ≡ false
 
--- a byte that begins a number, a variable, and none of the tokens of many texts
+-- a byte that begins a number; one that begins a variable; one that begins none of these, nor an atom
 abbrev pub begins_number : ℕ → Bool
 begins_number b = is_digit b || nat_eq b 45
 

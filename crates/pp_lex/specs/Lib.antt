@@ -1,5 +1,4 @@
 pub mod Gaps
 pub mod Fronts
 pub mod Readings
-pub mod AllTokens
 pub mod Spans

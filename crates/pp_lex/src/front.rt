@@ -5,21 +5,7 @@ ghost use Rattle.pp_language.specs.Texts.{is_digit, is_lower, is_word};
 ghost use Rattle.pp_language.specs.Kinds.{value_of, greatest_size, is_plain_byte};
 ghost use Rattle.pp_lex.specs.Fronts.{IsFront, HasNoFront, IsLongestRest, HasNoRest, begins_number, begins_variable, begins_other};
 
-use pp_language::Kind;
-
-const GREATEST_SIZE: u64 = 1_000_000_000_000;
-
-fn is_digit(byte: u8) -> bool
-    ensures { result ≡ is_digit byte }
-{
-    byte.is_ascii_digit()
-}
-
-fn is_word(byte: u8) -> bool
-    ensures { result ≡ is_word byte }
-{
-    byte.is_ascii_alphanumeric() || byte == b'_'
-}
+use pp_language::{Kind, is_digit, is_word, number_of};
 
 /// Whether the byte stands for itself between quotes.
 fn is_plain(byte: u8) -> bool
@@ -47,16 +33,10 @@ fn is_in_range(digits: &[u8]) -> bool
     requires { IsTrue (list_all is_digit digits.now) }
     ensures { result ≡ nat_le (value_of 0 digits.now) greatest_size }
 {
-    let mut value: u64 = 0;
-    for digit in digits {
-        value = 10 * value + u64::from(*digit - b'0');
-        if value > GREATEST_SIZE {
-            return false;
-        }
-    }
-    true
+    number_of(digits).is_some()
 }
 
+/// The length of the integer that `rest` begins with.
 fn integer(rest: &[u8]) -> Option<usize>
     requires some { 0 < length rest.now }
     requires begins { IsTrue (begins_number (slice_index rest.now 0)) }
@@ -68,6 +48,7 @@ fn integer(rest: &[u8]) -> Option<usize>
     (size > 0 && is_in_range(&digits[..size])).then_some(sign + size)
 }
 
+/// The kind and the length of the word that `rest` begins with: an atom, or `infers`.
 fn word(rest: &[u8]) -> (Kind, usize)
     requires some { 0 < length rest.now }
     requires begins { IsTrue (is_lower (slice_index rest.now 0)) }
@@ -82,6 +63,7 @@ fn word(rest: &[u8]) -> (Kind, usize)
     (kind, size)
 }
 
+/// The length of the variable that `rest` begins with.
 fn variable(rest: &[u8]) -> usize
     requires some { 0 < length rest.now }
     requires begins { IsTrue (begins_variable (slice_index rest.now 0)) }
@@ -109,6 +91,7 @@ fn quoted_rest(rest: &[u8]) -> Option<usize>
     size
 }
 
+/// The length of the quoted atom that `rest` begins with.
 fn quoted(rest: &[u8]) -> Option<usize>
     requires some { 0 < length rest.now }
     requires begins { slice_index rest.now 0 ≡ 39 }

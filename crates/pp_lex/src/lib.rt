@@ -3,13 +3,11 @@
 
 mod front;
 mod gap;
-mod lexed;
 mod lists;
 mod scan;
 #[cfg(test)]
 mod tests;
 
-pub use lexed::{Lexed, tokens};
 pub use lists::{Sentence, SentenceList, Sentences, Tail, Tokens};
 pub use pp_language::{Kind, Token};
 pub use scan::sentences;

@@ -10,7 +10,7 @@ ghost use Rattle.pp_lex.specs.Spans.{AreSpans};
 use crate::front::front;
 use crate::gap::measure_gap;
 use crate::lists::{Sentence, SentenceList, Sentences, Tail, Tokens};
-use pp_language::{Kind, Token};
+use pp_language::{Kind, TEXT_LIMIT, Token};
 use std::alloc::{AllocError, Global};
 use std::mem;
 
@@ -25,7 +25,7 @@ pub(crate) enum Item {
 /// What stands behind a place.
 pub(crate) fn next(bytes: &[u8], place: usize) -> Item
     requires within { place ≤ length bytes.now }
-    requires small { length bytes.now ≤ 4194304 }
+    requires small { length bytes.now ≤ TEXT_LIMIT }
     ensures { IsItem bytes.now place result }
 {
     let gap = measure_gap(&bytes[place..]);
@@ -63,9 +63,9 @@ fn add(
     Ok(())
 }
 
-/// The sentences of a text, up to the first place where no token begins.
+/// The sentences of a text of at most `TEXT_LIMIT` bytes, up to the first place where no token begins.
 pub fn sentences(alloc: Global, bytes: &[u8]) -> Result<Sentences, AllocError>
-    requires { length bytes.now ≤ 4194304 }
+    requires { length bytes.now ≤ TEXT_LIMIT }
     ensures exact { IfOk result (λ s. AreSentences bytes.now (tokens_of s.list) (ending_of s.tail)) }
     ensures tokens { IfOk result (λ s. All (λ u. All (IsTokenOf bytes.now) u.tokens) s.list) }
     ensures ascending { IfOk result (λ s. AreSpans 0 (flat_map (λ u. u.tokens) s.list) (length bytes.now)) }

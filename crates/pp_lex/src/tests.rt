@@ -1,5 +1,4 @@
 //! What no contract says: that a call with ample memory answers, and what becomes of some texts.
-use crate::lexed::tokens;
 use crate::lists::{Sentences, Tail};
 use crate::scan::sentences;
 use pp_language::{Kind, Token};
@@ -96,22 +95,6 @@ fn the_longest_token_is_taken(rt: HostRuntime) -> Result<(), Fail> {
         &[&first, &[at(Kind::Atom, 32, 33)]],
         Tail::Clean,
     );
-    Ok(())
-}
-
-#[test]
-fn all_tokens_hold_the_points(rt: HostRuntime) -> Result<(), Fail> {
-    let all = [
-        at(Kind::Atom, 0, 1),
-        at(Kind::Point, 1, 2),
-        at(Kind::Variable, 3, 4),
-    ];
-    let whole = tokens(rt.alloc(), b"p. X")?;
-    assert_eq!(rt; whole.tokens.as_slice(), all.as_slice());
-    assert!(rt; whole.whole);
-    let broken = tokens(rt.alloc(), b"p. X !")?;
-    assert_eq!(rt; broken.tokens.as_slice(), all.as_slice());
-    assert!(rt; !broken.whole);
     Ok(())
 }
 

@@ -5,10 +5,3 @@ pub mod Intervals
 pub mod RowTexts
 pub mod Marked
 pub mod StoreLines
-pub mod Spelled
-pub mod WordTokens
-pub mod Phrased
-pub mod ReadBack
-pub mod NamedKeys
-pub mod Facts
-pub mod TextNames

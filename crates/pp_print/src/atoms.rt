@@ -2,29 +2,16 @@
 ghost use Rattle.std.specs.Prelude.{◌≡◌, ◌++◌, OnOk};
 ghost use Rattle.std.specs.List.{list_all};
 ghost use Rattle.pp_language.specs.Kinds.{is_plain_atom};
-ghost use Rattle.pp_language.specs.Texts.{is_lower, is_word};
+ghost use Rattle.pp_language.specs.Texts.{is_word};
 ghost use Rattle.pp_language.specs.Printing.{doubled, atom_text, name_at};
 
+use pp_language::{is_lower, is_word};
 use pp_term::Names;
 use std::alloc::AllocError;
 
 const QUOTE: u8 = b'\'';
 
-fn is_lower(byte: u8) -> bool
-    ensures { result ≡ is_lower byte }
-{
-    b'a' <= byte && byte <= b'z'
-}
-
-fn is_word(byte: u8) -> bool
-    ensures { result ≡ is_word byte }
-{
-    is_lower(byte)
-        || (b'A' <= byte && byte <= b'Z')
-        || (b'0' <= byte && byte <= b'9')
-        || byte == b'_'
-}
-
+/// Whether the bytes are letters, digits and `_`.
 fn are_words(bytes: &[u8]) -> bool
     ensures { result ≡ list_all is_word bytes.now }
 {

@@ -12,13 +12,13 @@ use Rattle.pp_algebra.proofs.Antisym.{put_all-agree, occurs}
 use Rattle.pp_algebra.proofs.CanonLemmas.{IsSame, at, name, nat_eq-IsSame}
 use Rattle.pp_algebra.proofs.OneCanon.{one_canon}
 use Rattle.pp_algebra.proofs.Order.{variables_all-put_all}
-use Rattle.pp_row.proofs.Keys.{same_text-IsSame}
+use Rattle.pp_roundtrip.proofs.SameTexts.{same_text-IsSame}
 use Rattle.pp_language.specs.Texts.{Text}
 use Rattle.pp_language.specs.Keys.{Key, named, unnamed, same_key, is_named, named_first, numbered}
 use Rattle.pp_language.specs.Meanings.{keys_in}
 use Rattle.pp_language.specs.Printing.{variable_text}
-use Rattle.pp_print.proofs.Phrased.{by_name_all}
-use Rattle.pp_print.proofs.ReadBack.{own_names}
+use Rattle.pp_roundtrip.proofs.Phrased.{by_name_all}
+use Rattle.pp_roundtrip.proofs.ReadBack.{own_names}
 
 same_key-itself : (k : Key) → same_key k k ≡ true
 same_key-itself (named x) = same_text-IsSame.itself x

@@ -15,7 +15,7 @@ use Rattle.pp_language.specs.Meanings.{integer_of}
 use Rattle.pp_language.specs.Printing.{doubled, atom_text, variable_text}
 use Rattle.pp_language.proofs.Bytes.{digit_begins}
 use Rattle.pp_language.proofs.Forms.{any_form, form_of_digit, form_of_minus, form_of_lower, form_of_quote, form_of_variable}
-use Rattle.pp_print.specs.Laws.{is_writable, ends_tokens}
+use Rattle.pp_roundtrip.specs.Laws.{is_writable, ends_tokens}
 
 -- ===== digits
 

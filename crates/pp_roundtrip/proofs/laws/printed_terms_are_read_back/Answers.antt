@@ -1,6 +1,6 @@
-use Rattle.pp_print.proofs.Facts.{read_as_fact}
-use Rattle.pp_print.proofs.ReadBack.{read_alone, read_among, own_names}
-use Rattle.pp_print.proofs.laws.printed_terms_are_read_back.Goals as goal
+use Rattle.pp_roundtrip.proofs.Facts.{read_as_fact}
+use Rattle.pp_roundtrip.proofs.ReadBack.{read_alone, read_among, own_names}
+use Rattle.pp_roundtrip.proofs.laws.printed_terms_are_read_back.Goals as goal
 
 pub returns-clause-alone : goal.returns-clause-alone
 returns-clause-alone c = read_alone

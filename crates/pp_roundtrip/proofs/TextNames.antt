@@ -8,7 +8,7 @@ use Rattle.std.proofs.lemmas.List.Folds.{list_all-append}
 use Rattle.pp_algebra.specs.Canon.{has, firsts, Distinct}
 use Rattle.pp_algebra.proofs.CanonLemmas.{IsSame}
 use Rattle.pp_algebra.proofs.OneCanon.{distinct_push}
-use Rattle.pp_row.proofs.Keys.{same_text-IsSame}
+use Rattle.pp_roundtrip.proofs.SameTexts.{same_text-IsSame}
 use Rattle.pp_language.specs.declared.token.Kind.{Kind}
 use Rattle.pp_language.specs.declared.token.Kind.TheVariants.{Atom, Quoted, Variable}
 use Rattle.pp_language.specs.declared.token.Token.{Token}
@@ -25,8 +25,8 @@ use Rattle.pp_language.specs.Printing.{doubled}
 use Rattle.pp_language.proofs.Bytes.{within, lower_is_word, variable_is_word}
 use Rattle.pp_language.proofs.Forms.{spells-any, form_of_quote}
 use Rattle.pp_language.proofs.PartsSpelled.{AreSpelled}
-use Rattle.pp_print.specs.Laws.{is_writable, NoOtherAtoms, NamesOfTexts}
-use Rattle.pp_print.proofs.Spelled.{in_quotes, unquoted-in_quotes}
+use Rattle.pp_roundtrip.specs.Laws.{is_writable, NoOtherAtoms, NamesOfTexts}
+use Rattle.pp_roundtrip.proofs.Spelled.{in_quotes, unquoted-in_quotes}
 
 -- ===== words
 

@@ -1,14 +1,13 @@
 use Rattle.std.proofs.Common.{sym, arith, ◌+◌}
-use Rattle.std.proofs.lemmas.Bool.{lt-leb}
 use Rattle.pp_language.specs.Kinds.{value_of, greatest_size}
-use Rattle.pp_lex.proofs.Digits.{value_of-take_more, value_of-take-le}
-use Rattle.pp_lex.proofs.front.is_in_range.Goals as goal
+use Rattle.pp_language.proofs.Digits.{value_of-take_more, value_of-take-le}
+use Rattle.pp_language.proofs.spelling.number_of.Goals as goal
 
 pub returns-then-value-gt-GREATEST_SIZE : goal.returns-then-value-gt-GREATEST_SIZE
 returns-then-value-gt-GREATEST_SIZE c =
     let v = value_of-take_more c.args.digits.now c.loop-digit.digit-index 0 c.loop-digit-test.true in
     let w = value_of-take-le c.args.digits.now (c.loop-digit.digit-index + 1) in
-    sym (lt-leb (value_of 0 c.args.digits.now) greatest_size (omega (arith, c.from.ensures, c.loop-digit.invariant.0)))
+    record { number = omega (arith, c.from.ensures, c.loop-digit.invariant.0); in_range = omega (arith, c.from.ensures, c.loop-digit.invariant.0) }
 
 pub loop-digit-preserved : goal.loop-digit-preserved
 loop-digit-preserved c =

@@ -1,5 +1,5 @@
 -- The laws of printing and reading, as statements.
-use Rattle.std.specs.Prelude.{◌≡◌, ℕ, ◌+◌, ◌^◌, ◌<◌, Bool, true, false, IsTrue, not, ◌&&◌, ◌||◌, nat_eq, List, [], ◌∷◌, ◌++◌, map, length, Some, codes}
+use Rattle.std.specs.Prelude.{◌≡◌, ℕ, ◌+◌, ◌^◌, ◌<◌, Bool, true, false, IsTrue, not, ◌≤◌, ◌&&◌, ◌||◌, nat_eq, List, [], ◌∷◌, ◌++◌, map, length, codes}
 use Rattle.std.specs.List.{list_all}
 use Rattle.pp_algebra.specs.Members.{IsInteger}
 use Rattle.pp_algebra.specs.Terms.{Tree, int, node, variable, Trees, none, more, count, put, variables_all}
@@ -7,15 +7,15 @@ use Rattle.pp_algebra.specs.Rows.{IsNumbered}
 use Rattle.pp_algebra.specs.Canon.{Distinct}
 use Rattle.pp_sld.specs.Goals.{Predicate}
 use Rattle.pp_language.specs.declared.token.Kind.{Kind}
+use Rattle.pp_language.specs.declared.token.Kind.TheVariants.{Left}
 use Rattle.pp_language.specs.declared.token.Token.{Token}
 use Rattle.pp_language.specs.Texts.{Text, is_word, part}
 use Rattle.pp_algebra.specs.Texts.{same_text}
 use Rattle.pp_language.specs.Kinds.{is_plain_byte, spells}
-use Rattle.pp_language.specs.Tokens.{IsLastGap, AreTokensOf}
+use Rattle.pp_language.specs.Tokens.{IsGap, IsLastGap, AreTokensOf}
 use Rattle.pp_language.specs.Sentences.{clean, AreSentences}
 use Rattle.pp_language.specs.Words.{word_of, is_built_in}
-use Rattle.pp_language.specs.Phrases.{Phrase, term_part}
-use Rattle.pp_language.specs.PartsOf.{parts_of}
+use Rattle.pp_language.specs.Phrases.{Phrase, phrase_words, is_phrase}
 use Rattle.pp_language.specs.Statements.{Statement, clause, Says}
 use Rattle.pp_language.specs.Faults.{IsInGrammar}
 use Rattle.pp_language.specs.Keys.{Key, named}
@@ -49,24 +49,47 @@ abbrev mutual
 abbrev pub by_name : Tree ℕ → Tree Key
 by_name t = put (λ v. variable (named (variable_text v))) t
 
--- from place i to place j the text is these tokens and no others, and they are one phrase, which means this term wherever it stands
-pub record IsRead (names : List Text) (text : Text) (i j : ℕ) (t : Tree Key) : Type 0 where
-  pub tokens : List Token
-  pub are_tokens : AreTokensOf text i tokens j
-  pub only : (us : List Token) → AreTokensOf text i us j → us ≡ tokens
+-- the words of these tokens are one phrase, and it means this term wherever it stands in a sentence
+pub record Mean (names : List Text) (text : Text) (tokens : List Token) (t : Tree Key) : Type 0 where
   pub phrase : Phrase
-  pub parts : parts_of (map (word_of text) tokens) ≡ Some (term_part phrase ∷ [])
+  pub words : map (word_of text) tokens ≡ phrase_words phrase
+  pub is_phrase : IsTrue (is_phrase phrase)
   pub means : (n : ℕ) → keyed names n phrase ≡ t
 
--- the same of the whole text, wherever its tokens end
+-- the text has one list of tokens, and they mean this term
 pub record IsReadAlone (names : List Text) (text : Text) (t : Tree Key) : Type 0 where
-  pub read : IsRead names text 0 (length text) t
-  pub only : (us : List Token) (j : ℕ) → AreTokensOf text 0 us j → IsLastGap (part text j (length text)) → us ≡ read.tokens
+  pub tokens : List Token
+  pub are_tokens : AreTokensOf text 0 tokens (length text)
+  pub only : (us : List Token) (j : ℕ) → AreTokensOf text 0 us j → IsLastGap (part text j (length text)) → us ≡ tokens
+  pub mean : Mean names text tokens t
+
+-- up to place i the text is these tokens, and white space and comments after the last one
+pub record IsUpTo (text : Text) (tokens : List Token) (i : ℕ) : Type 0 where
+  pub last : ℕ
+  pub are_tokens : AreTokensOf text 0 tokens last
+  pub within : last ≤ i
+  pub gap : IsGap (part text last i)
 
 -- no token that a term ends with goes on into this text
 abbrev pub ends_tokens : Text → Bool
 ends_tokens [] = true
 ends_tokens (b ∷ bs) = not (is_word b) && not (nat_eq b 39)
+
+-- and no `(` comes first in it, also not after white space and comments
+pub record EndsTerm (behind : Text) : Type 0 where
+  pub token : IsTrue (ends_tokens behind)
+  pub no_arguments : (gap rest : Text) → IsGap gap → behind ≡ gap ++ 40 ∷ rest → ⊥
+
+abbrev pub OpensNone : List Token → Type 0
+OpensNone [] = Unit {0}
+OpensNone (t ∷ ts) = t.kind ≡ Left → ⊥
+
+-- after these tokens the text has those of this term, up to place j: each list of its tokens that goes so far has them there, and no `(` next
+pub record IsReadAfter (names : List Text) (text : Text) (us : List Token) (j : ℕ) (t : Tree Key) : Type 0 where
+  pub tokens : List Token
+  pub are_tokens : AreTokensOf text 0 (us ++ tokens) j
+  pub only : (vs : List Token) (k : ℕ) → AreTokensOf text 0 vs k → j ≤ k → (more : List Token) × (vs ≡ us ++ tokens ++ more) × OpensNone more
+  pub mean : Mean names text tokens t
 
 -- the text is one sentence, and the sentence is a clause without goals
 pub record IsReadAsFact (names : List Text) (text : Text) (p : Predicate) (ts : Trees ℕ) : Type 0 where
@@ -78,13 +101,14 @@ pub record IsReadAsFact (names : List Text) (text : Text) (p : Predicate) (ts : 
 
 -- ===== the laws
 
--- a printed term is read as the same term: alone, and among other texts
+-- a printed term is read as the same term: alone, and after other tokens
 abbrev pub ReadAlone : Type 0
 ReadAlone = (names : List Text) (t : Tree ℕ) → AreNames names → IsOver names t → IsReadAlone names (term_text names t) (by_name t)
 
 abbrev pub ReadAmong : Type 0
-ReadAmong = (names : List Text) (t : Tree ℕ) (before behind : Text) → AreNames names → IsOver names t → IsTrue (ends_tokens behind)
-    → IsRead names (before ++ term_text names t ++ behind) (length before) (length before + length (term_text names t)) (by_name t)
+ReadAmong = (names : List Text) (t : Tree ℕ) (before behind : Text) (us : List Token) → AreNames names → IsOver names t → EndsTerm behind
+    → IsUpTo (before ++ term_text names t ++ behind) us (length before)
+    → IsReadAfter names (before ++ term_text names t ++ behind) us (length before + length (term_text names t)) (by_name t)
 
 -- different variables have different names
 abbrev pub OwnNames : Type 0

@@ -6,7 +6,7 @@ use Rattle.std.specs.Fmt.{signed_decimal}
 use Rattle.std.proofs.lemmas.Bool.{and_from, and_parts, both_ways, cond-true, cond-false, false_from_ne_true, or_left, or_right}
 use Rattle.pp_algebra.specs.Terms.{Tree, int, node, variable, Trees, none, more, put_all}
 use Rattle.pp_algebra.specs.Canon.{has, place, Distinct}
-use Rattle.pp_row.proofs.Keys.{same_text-itself}
+use Rattle.pp_roundtrip.proofs.SameTexts.{same_text-itself}
 use Rattle.pp_language.specs.declared.token.Kind.TheVariants.{Integer, Variable, Left, Right, Comma}
 use Rattle.pp_language.specs.Texts.{Text}
 use Rattle.pp_algebra.specs.Texts.{same_text}
@@ -16,9 +16,9 @@ use Rattle.pp_language.specs.Keys.{Key, named, key_of}
 use Rattle.pp_language.specs.Meanings.{blanks, keyed, keyed_all}
 use Rattle.pp_language.specs.Printing.{atom_text, name_at, variable_text, term_text, arguments_text, more_arguments_text}
 use Rattle.pp_language.proofs.Forms.{same_text-true}
-use Rattle.pp_print.specs.Laws.{is_writable, AreNames, IsOver, AreOver, by_name, ends_tokens}
-use Rattle.pp_print.proofs.Spelled.{atom_word, atom-written, integer-written, variable-written, decimal-writes}
-use Rattle.pp_print.proofs.WordTokens.{text_of, AreFirst, ended, alone}
+use Rattle.pp_roundtrip.specs.Laws.{is_writable, AreNames, IsOver, AreOver, by_name, ends_tokens}
+use Rattle.pp_roundtrip.proofs.Spelled.{atom_word, atom-written, integer-written, variable-written, decimal-writes}
+use Rattle.pp_roundtrip.proofs.WordTokens.{text_of, AreFirst, ended, alone}
 
 abbrev mutual
   pub phrase_of : List Text → Tree ℕ → Phrase

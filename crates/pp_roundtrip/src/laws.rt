@@ -1,7 +1,7 @@
 //! What printing and reading come to together, as calls whose contracts are the laws.
-ghost use Rattle.pp_print.specs.Laws.{ReadAlone, ReadAmong, OwnNames, ReadAsFact, NoOtherAtoms, NamesOfTexts};
+ghost use Rattle.pp_roundtrip.specs.Laws.{ReadAlone, ReadAmong, OwnNames, ReadAsFact, NoOtherAtoms, NamesOfTexts};
 
-/// A printed term is read as the same term, alone or among other texts, with each variable by its name; and a printed
+/// A printed term is read as the same term, alone or after other tokens, with each variable by its name; and a printed
 /// atom with a point behind it is read as the fact of the same arguments.
 pub fn printed_terms_are_read_back()
     ensures alone { ReadAlone }

@@ -21,12 +21,12 @@ use Rattle.pp_language.specs.Statements.{clause, is_head, Says}
 use Rattle.pp_language.specs.Keys.{Key, named_first, numbered}
 use Rattle.pp_language.specs.Meanings.{keyed_all, keys_in, clause_by}
 use Rattle.pp_language.specs.Printing.{name_at, term_text}
-use Rattle.pp_print.specs.Laws.{AreNames, IsOver, AreOver, IsReadAsFact, ReadAsFact}
-use Rattle.pp_print.proofs.Spelled.{IsAtom, atom_word, atom-written}
-use Rattle.pp_print.proofs.WordTokens.{text_of, AreFirst, tokens_from, token_at, are_tokens}
-use Rattle.pp_print.proofs.Phrased.{phrase_of, phrases_of, name_is_writable, place-at, phrase_text, phrase_first, is_phrase-of, phrases_mean}
-use Rattle.pp_print.proofs.ReadBack.{words_of_text, last_gap}
-use Rattle.pp_print.proofs.NamedKeys.{numbered-back}
+use Rattle.pp_roundtrip.specs.Laws.{AreNames, IsOver, AreOver, IsReadAsFact, ReadAsFact}
+use Rattle.pp_roundtrip.proofs.Spelled.{IsAtom, atom_word, atom-written}
+use Rattle.pp_roundtrip.proofs.WordTokens.{text_of, AreFirst, tokens_from, token_at, are_tokens}
+use Rattle.pp_roundtrip.proofs.Phrased.{phrase_of, phrases_of, name_is_writable, place-at, phrase_text, phrase_first, is_phrase-of, phrases_mean}
+use Rattle.pp_roundtrip.proofs.ReadBack.{words_of_text, last_gap}
+use Rattle.pp_roundtrip.proofs.NamedKeys.{numbered-back}
 
 -- ===== no word of a phrase is a point
 

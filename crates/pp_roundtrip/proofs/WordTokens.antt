@@ -9,8 +9,8 @@ use Rattle.pp_language.specs.Kinds.{spells}
 use Rattle.pp_language.specs.Tokens.{clear, gap_from, IsTokenOf, AreTokensOf}
 use Rattle.pp_language.specs.Words.{Word, word, word_of}
 use Rattle.pp_language.proofs.Forms.{any_form, has_form-none, spells-any}
-use Rattle.pp_print.specs.Laws.{ends_tokens}
-use Rattle.pp_print.proofs.Spelled.{Ends, ends-first}
+use Rattle.pp_roundtrip.specs.Laws.{ends_tokens}
+use Rattle.pp_roundtrip.proofs.Spelled.{Ends, ends-first}
 
 abbrev pub text_of : List Word → Text
 text_of [] = []
