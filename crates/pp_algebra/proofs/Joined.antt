@@ -1,6 +1,6 @@
 -- Laws of lists of terms that are joined.
-use Rattle.std.proofs.Common.{◌≡◌, ℕ, ◌+◌, ◌++◌, refl, ap, sym, ◌∙◌, arith, append_assoc}
-use Rattle.pp_algebra.specs.Terms.{Tree, Trees, none, more, count, put, put_all, variables, variables_all, join, size, size_all}
+use Rattle.std.proofs.Common.{◌≡◌, ◌+◌, ◌++◌, refl, ap, sym, ◌∙◌, arith, append_assoc}
+use Rattle.pp_algebra.specs.Terms.{Tree, Trees, none, more, count, put, put_all, variables, variables_all, join, size_all}
 
 module _ {V : Type 0} where
   pub join-none : (ts : Trees V) → join ts none ≡ ts

@@ -1,10 +1,11 @@
 -- What covers all rows covers their least generalisation.
 use Rattle.std.proofs.Common.{◌≡◌, ℤ, Bool, true, false, List, [], ◌∷◌, map, Option, Some, None, refl, sym, ◌∙◌, ◌⊎◌, inl, inr}
-use Rattle.std.specs.Prelude.{cond, ◌||◌}
+use Rattle.std.specs.Prelude.{cond}
 use Rattle.std.specs.Ordering.{int_cmp, int_eq}
 use Rattle.std.proofs.Math.Bool.{or-false}
 use Rattle.std.specs.FinSet as set
 use Rattle.std.specs.Cmp.{int_cmp_total}
+use Rattle.std.proofs.lemmas.Bool.{or_cases}
 use Rattle.pp_algebra.specs.Terms.{Tree, int, node, variable, put_all, variables_all}
 use Rattle.pp_algebra.specs.Rows.{Domain, Domains, Pattern}
 use Rattle.pp_algebra.specs.Covers.{IsWithin, MayGo, IsIn, Covers}
@@ -15,13 +16,8 @@ use Rattle.pp_algebra.proofs.LeastIsLeast.{together, least_trees-put}
 only_one : (n m : ℤ) → set.contains (set.from_list {R = int_cmp} (n ∷ [])) m ≡ true → n ≡ m
 only_one n m h = sym (int_is m n (sym (or-false (int_eq m n)) ∙ sym (set.contains-from_list int_cmp_total (n ∷ []) m) ∙ h))
 
--- one of two tests passes
-either : (a b : Bool) → (a || b) ≡ true → (a ≡ true) ⊎ (b ≡ true)
-either true b h = inl refl
-either false b h = inr h
-
 in_either : (d e : Domain) (n : ℤ) → set.contains (set.union d e) n ≡ true → (set.contains d n ≡ true) ⊎ (set.contains e n ≡ true)
-in_either d e n h = either _ _ (sym (set.contains-union int_cmp_total d e n) ∙ h)
+in_either d e n h = or_cases _ _ (sym (set.contains-union int_cmp_total d e n) ∙ h)
 
 both_within : (d : Domain) (x u : Option Domain) → IsWithin d x → IsWithin d u → IsWithin d (both x u)
 both_within d None u h k = h

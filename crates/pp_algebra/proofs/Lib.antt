@@ -23,3 +23,6 @@ pub mod Solving
 pub mod SameRow
 pub mod MembersListed
 pub mod Worked
+pub mod WideLeast
+pub mod Renamed
+pub mod WorkedSolving

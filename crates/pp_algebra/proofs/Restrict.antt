@@ -1,6 +1,7 @@
 -- The row of some of the columns of what was solved.
-use Rattle.std.proofs.Common.{ℕ, zero, suc, ◌<◌, ◌≤◌, List, [], ◌∷◌, length, Some, ap, sym, ◌∙◌, subst, ◌⊎◌, inl, inr, arith}
+use Rattle.std.proofs.Common.{ℕ, List, [], ◌∷◌, length, Some, ap, sym, ◌∙◌, subst, inl, inr, arith}
 use Rattle.std.specs.Prelude.{nat_eq}
+use Rattle.std.proofs.lemmas.Bool.{cases_lt}
 use Rattle.pp_algebra.specs.Terms.{Tree, Trees, put, put_all, variables_all}
 use Rattle.pp_algebra.specs.Rows.{Domains, Row, pattern_of, domain_at}
 use Rattle.pp_algebra.specs.Covers.{IsIn, MayGo, Covers}
@@ -43,16 +44,11 @@ module _ {U : Type 0} (members : Members) (D : Domains U) (E : List (Item U)) wh
     abbrev pub part : Row
     part = canon nat_eq (X members r h.row (put_all h.meets.by P1))
 
-    below_or : (v n : ℕ) → (v < n) ⊎ (n ≤ v)
-    below_or v zero = inr (omega arith)
-    below_or zero (suc n) = inl (omega arith)
-    below_or (suc v) (suc n) = elim (below_or v n) [ inl l ↦ inl (omega arith) | inr l ↦ inr (omega arith) ]
-
     most : (q : Row) → IsRow q → Meets (pattern P1 D) E q → Covers (pattern_of part) (pattern_of q)
     most q n m =
         let all = X members q n (put_all m.by P) in
         let f = covers_through (pattern_of r) (pattern_of (canon nat_eq all)) all (h.most (canon nat_eq all) (canon-IsRow members q n (put_all m.by P)) (other_meets q n m.by m.domains m.holds P)) (canon-covers nat_eq nat_eq-IsSame all) in
-        let goes = λ (v : ℕ). elim (below_or v (length r.domains)) as (λ _. MayGo (domain_at q.domains) (domain_at r.domains v) (f.by v)) [
+        let goes = λ (v : ℕ). elim (cases_lt v (length r.domains)) as (λ _. MayGo (domain_at q.domains) (domain_at r.domains v) (f.by v)) [
           | inl l ↦ f.domains v (occurs (variables_all r.columns) 0 (length r.domains) v h.row.canonical (omega arith) l)
           | inr l ↦ subst (λ d. MayGo (domain_at q.domains) d (f.by v)) (sym (beyond r.domains v l)) tt
         ] in

@@ -1,5 +1,6 @@
 -- Solving more, from the row of what was solved.
 use Rattle.std.proofs.Common.{◌≡◌, ℕ, zero, suc, ◌<◌, ◌≤◌, Bool, true, false, List, [], ◌∷◌, ◌++◌, map, length, get_or, Option, Some, None, refl, ap, sym, ◌∙◌, subst, ◌⊎◌, inl, inr, arith}
+use Rattle.std.proofs.lemmas.Bool.{cases_lt}
 use Rattle.pp_algebra.specs.Terms.{Tree, int, node, variable, Trees, none, more, put, put_all, variables, variables_all}
 use Rattle.pp_algebra.specs.Rows.{Domain, Domains, Pattern, Row, pattern_of, domain_at}
 use Rattle.pp_algebra.specs.Covers.{IsIn, MayGo, Covers}
@@ -166,16 +167,8 @@ module _ {U : Type 0} (W : Type 0) (members : Members) (P : Trees U) (D : Domain
   on (inl v) = cover.by v
   on (inr w) = k.by (inr w)
 
-  below_or : (v n : ℕ) → (v < n) ⊎ (n ≤ v)
-  below_or v n = nat_split v n
-    where
-      nat_split : (v n : ℕ) → (v < n) ⊎ (n ≤ v)
-      nat_split v zero = inr (omega arith)
-      nat_split zero (suc n) = inl (omega arith)
-      nat_split (suc v) (suc n) = elim (nat_split v n) [ inl l ↦ inl (omega arith) | inr l ↦ inr (omega arith) ]
-
   on-goes : (v : ℕ ⊎ W) → MayGo (domain_at q.domains) (with_fresh W (domain_at r.domains) v) (on v)
-  on-goes (inl v) = elim (below_or v (length r.domains)) [
+  on-goes (inl v) = elim (cases_lt v (length r.domains)) [
     | inl l ↦ cover.domains v (occurs (variables_all r.columns) 0 (length r.domains) v h.row.canonical (omega arith) l)
     | inr l ↦ subst (λ d. MayGo (domain_at q.domains) d (cover.by v)) (sym (beyond r.domains v l)) tt
   ]

@@ -4,29 +4,29 @@ use Rattle.pp_algebra.specs.Terms.{count}
 use Rattle.pp_algebra.specs.Covers.{IsIn, RowCovers}
 use Rattle.pp_algebra.specs.Rows.{Row, IsCanonical, pattern_of}
 use Rattle.pp_algebra.specs.Least.{least_row}
-use Rattle.pp_algebra.specs.Joins.{one, two, AreWideAs, SameRows, AllOf}
+use Rattle.pp_algebra.specs.Joins.{one, two, AreOfWidth, SameRows, AllOf}
 use Rattle.pp_algebra.proofs.Order.{covers_itself, covers_through, IsIn-left, IsIn-right}
 use Rattle.pp_algebra.proofs.Antisym.{covers_antisymmetric, IsIn-either}
 use Rattle.pp_algebra.proofs.Law.{least_row-IsCanonical, least_row-covers, least_row-least, count-covers, joins_law}
 
 -- rows that stand in the second list are covered by its least generalisation, and so is theirs
-covers_fewer : (r q : Row) (rs qs : List Row) → AreWideAs (q ∷ qs) q → ((p : Row) → IsIn p (r ∷ rs) → IsIn p (q ∷ qs)) → RowCovers (least_row q qs) (least_row r rs)
+covers_fewer : (r q : Row) (rs qs : List Row) → AreOfWidth (q ∷ qs) q → ((p : Row) → IsIn p (r ∷ rs) → IsIn p (q ∷ qs)) → RowCovers (least_row q qs) (least_row r rs)
 covers_fewer r q rs qs w s = least_row-least r rs (least_row q qs) (λ p i. least_row-covers q qs p (s p i) (w p (s p i)))
 
-pub least_of_same : (r q : Row) (rs qs : List Row) → AreWideAs (r ∷ rs) r → SameRows (r ∷ rs) (q ∷ qs) → least_row r rs ≡ least_row q qs
+pub least_of_same : (r q : Row) (rs qs : List Row) → AreOfWidth (r ∷ rs) r → SameRows (r ∷ rs) (q ∷ qs) → least_row r rs ≡ least_row q qs
 least_of_same r q rs qs w s =
-    let v : AreWideAs (q ∷ qs) q = λ p i. w p (s.1 p i) ∙ sym (w q (s.1 q (inl refl))) in
+    let v : AreOfWidth (q ∷ qs) q = λ p i. w p (s.1 p i) ∙ sym (w q (s.1 q (inl refl))) in
     covers_antisymmetric (least_row r rs) (least_row q qs) (least_row-IsCanonical r rs) (least_row-IsCanonical q qs) (covers_fewer q r qs rs w s.1) (covers_fewer r q rs qs v s.0)
 
 -- of more rows it is more general
-pub least_of_more : (r : Row) (rs cs : List Row) → AreWideAs (r ∷ rs) r → RowCovers (least_row r (rs ++ cs)) (least_row r rs)
+pub least_of_more : (r : Row) (rs cs : List Row) → AreOfWidth (r ∷ rs) r → RowCovers (least_row r (rs ++ cs)) (least_row r rs)
 least_of_more r rs cs w = least_row-least r rs (least_row r (rs ++ cs)) (λ p i. least_row-covers r (rs ++ cs) p (IsIn-left p (r ∷ rs) cs i) (w p i))
 
 least-width : (r : Row) (rs : List Row) → count (least_row r rs).columns ≡ count r.columns
 least-width r rs = count-covers (least_row r rs) r (least_row-covers r rs r (inl refl) refl)
 
 -- of parts it is that of the whole
-pub least_in_parts : (r q : Row) (rs qs : List Row) → AreWideAs ((r ∷ rs) ++ (q ∷ qs)) r → least_row (least_row r rs) (least_row q qs ∷ []) ≡ least_row r (rs ++ q ∷ qs)
+pub least_in_parts : (r q : Row) (rs qs : List Row) → AreOfWidth ((r ∷ rs) ++ (q ∷ qs)) r → least_row (least_row r rs) (least_row q qs ∷ []) ≡ least_row r (rs ++ q ∷ qs)
 least_in_parts r q rs qs w =
     let left_one = least_row r rs in
     let other = least_row q qs in
@@ -58,7 +58,7 @@ turn_two r q = (turn r q, turn q r)
     turn r q p (inr (inl e)) = inl e
     turn r q p (inr (inr f)) = absurd f
 
-wide_two : (r q : Row) → count q.columns ≡ count r.columns → AreWideAs (r ∷ q ∷ []) r
+wide_two : (r q : Row) → count q.columns ≡ count r.columns → AreOfWidth (r ∷ q ∷ []) r
 wide_two r q e p (inl f) = ap (λ x. count x.columns) (sym f)
 wide_two r q e p (inr (inl f)) = ap (λ x. count x.columns) (sym f) ∙ e
 wide_two r q e p (inr (inr f)) = absurd f

@@ -1,13 +1,12 @@
 -- Every pattern of wide domains and every list of items have a most general row, or nothing meets them.
 use Rattle.std.proofs.Common.{◌≡◌, ℕ, zero, suc, ◌<◌, pos, true, false, Bool, List, [], ◌∷◌, map, length, get_or, Option, Some, None, refl, ap, sym, ◌∙◌, subst, ◌⊎◌, inl, inr, arith}
 use Rattle.std.specs.Prelude.{cond, nat_eq}
-use Rattle.pp_algebra.specs.Terms.{Tree, int, variable, put, put_all, variables_all}
+use Rattle.pp_algebra.specs.Terms.{Tree, Trees, int, variable, put, put_all, variables_all}
 use Rattle.pp_algebra.specs.Rows.{Domain, Domains, Pattern, Row, pattern_of, domain_at}
 use Rattle.pp_algebra.specs.Covers.{MayGo, Covers}
 use Rattle.pp_algebra.specs.Canon.{has, place, firsts, canon}
 use Rattle.pp_algebra.specs.Solve.{Item, membership, AllHold, Meets, IsSolved, Solvable}
-use Rattle.pp_algebra.specs.Rows.{IsWide, IsRow}
-use Rattle.pp_algebra.specs.Laws.{two_kinds, RowsSolve, PairsSolve}
+use Rattle.pp_algebra.specs.Rows.{IsWide, AreWide, IsRow}
 use Rattle.pp_algebra.proofs.Put.{put_all-put_all}
 use Rattle.pp_algebra.proofs.Bools.{nat_same, nat_is}
 use Rattle.pp_algebra.proofs.Member.{members}
@@ -154,9 +153,8 @@ module _ {V : Type 0} (same : V → V → Bool) (s : IsSame same) (p : Pattern V
 -- variables of two kinds
 pub same_either : ℕ ⊎ ℕ → ℕ ⊎ ℕ → Bool
 same_either (inl v) (inl w) = nat_eq v w
-same_either (inl v) (inr w) = false
-same_either (inr v) (inl w) = false
 same_either (inr v) (inr w) = nat_eq v w
+same_either v w = false
 
 same_either-itself : (v : ℕ ⊎ ℕ) → same_either v v ≡ true
 unfolding same_either
@@ -173,14 +171,6 @@ same_either-is (inr v) (inr w) h = ap inr (nat_is v w h)
 pub same_either-IsSame : IsSame same_either
 same_either-IsSame = record { itself = same_either-itself; is = same_either-is }
 
--- a row, and items over its variables
-pub rows_solve : RowsSolve
+-- a row with wide domains, and items over its variables
+pub rows_solve : (ds : List (Option Domain)) (ts : Trees ℕ) (items : List (Item ℕ)) → AreWide ds → Solvable (record { columns = ts; domains = domain_at ds }) items
 rows_solve ds ts items w = solved nat_eq nat_eq-IsSame (record { columns = ts; domains = domain_at ds }) items (λ v. wide_at ds v w)
-
--- items over the variables of two rows
-pub pairs_solve : PairsSolve
-pairs_solve ds es ts items w x = solved same_either same_either-IsSame (record { columns = ts; domains = two_kinds ds es }) items wide
-  where
-    wide : (v : ℕ ⊎ ℕ) → IsWide (two_kinds ds es v)
-    wide (inl v) = wide_at ds v w
-    wide (inr v) = wide_at es v x

@@ -1,6 +1,7 @@
 -- The most general row and the rows that meet the items; items in any order, with repeats and with more that hold already.
-use Rattle.std.proofs.Common.{ℕ, zero, suc, ◌<◌, ◌≤◌, List, [], ◌∷◌, length, Some, refl, ap, sym, ◌∙◌, subst, ◌⊎◌, inl, inr, arith}
+use Rattle.std.proofs.Common.{ℕ, ◌<◌, ◌≤◌, ◌⊎◌, List, [], ◌∷◌, length, Some, refl, ap, sym, ◌∙◌, subst, inl, inr, arith}
 use Rattle.std.specs.Prelude.{◌↔◌}
+use Rattle.std.proofs.lemmas.Bool.{cases_lt}
 use Rattle.pp_algebra.specs.Terms.{Tree, put, put_all, variables_all}
 use Rattle.pp_algebra.specs.Rows.{Domains, Pattern, Row, domain_at, IsRow}
 use Rattle.pp_algebra.specs.Covers.{MayGo, IsIn, RowCovers}
@@ -13,14 +14,12 @@ use Rattle.pp_algebra.proofs.Order.{goes_further}
 use Rattle.pp_algebra.proofs.Resume.{beyond, meets_last, resumed, at_once, none_resumed}
 use Rattle.pp_algebra.proofs.Restrict.{restricted, none_for}
 
-pub below_or : (v n : ℕ) → (v < n) ⊎ (n ≤ v)
-below_or v zero = inr (omega arith)
-below_or zero (suc n) = inl (omega arith)
-below_or (suc v) (suc n) = elim (below_or v n) [ inl l ↦ inl (omega arith) | inr l ↦ inr (omega arith) ]
-
 -- under a cover of a canonical row each number goes where its domain lets it
+pub below_or : (v n : ℕ) → (v < n) ⊎ (n ≤ v)
+below_or v n = cases_lt v n
+
 pub covers-goes : (r q : Row) → IsRow r → (c : RowCovers r q) → (v : ℕ) → MayGo (domain_at q.domains) (domain_at r.domains v) (c.by v)
-covers-goes r q h c v = elim (below_or v (length r.domains)) [
+covers-goes r q h c v = elim (cases_lt v (length r.domains)) [
   | inl l ↦ c.domains v (occurs (variables_all r.columns) 0 (length r.domains) v h.canonical (omega arith) l)
   | inr l ↦ subst (λ d. MayGo (domain_at q.domains) d (c.by v)) (sym (beyond r.domains v l)) tt
 ]

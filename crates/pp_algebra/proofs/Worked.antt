@@ -45,10 +45,10 @@ in_union ns ms k =
 same : (d e : Domain) → ((n : ℤ) → set.contains d n ≡ set.contains e n) → d ≡ e
 same d e h = set.same_set int_cmp_total set.int_cmp-IsAntisymmetric d e h
 
-in_only : (n k : ℤ) → set.contains (only n) k ≡ list_any (eq_by_cmp int_cmp k) (n ∷ [])
+pub in_only : (n k : ℤ) → set.contains (only n) k ≡ list_any (eq_by_cmp int_cmp k) (n ∷ [])
 in_only n k = set.contains-from_list int_cmp_total (n ∷ []) k
 
-in_pair : (n m k : ℤ) → set.contains (pair n m) k ≡ list_any (eq_by_cmp int_cmp k) (n ∷ m ∷ [])
+pub in_pair : (n m k : ℤ) → set.contains (pair n m) k ≡ list_any (eq_by_cmp int_cmp k) (n ∷ m ∷ [])
 in_pair n m k = set.contains-from_list int_cmp_total (n ∷ m ∷ []) k
 
 pub two_make : (n m : ℤ) → set.union (only n) (set.union (only m) set.empty) ≡ pair n m
@@ -99,10 +99,10 @@ one_variable_does_not c =
     let b : c.by 0 ≡ atom_a = cc c.columns in
     absurd (cc (a, b))
 
-in_one_or_two : (k : ℤ) (b : Bool) → list_any (eq_by_cmp int_cmp k) (pos 1 ∷ pos 2 ∷ []) ≡ b → set.contains one_or_two k ≡ b
+pub in_one_or_two : (k : ℤ) (b : Bool) → list_any (eq_by_cmp int_cmp k) (pos 1 ∷ pos 2 ∷ []) ≡ b → set.contains one_or_two k ≡ b
 in_one_or_two k b e = in_pair (pos 1) (pos 2) k ∙ e
 
-in_two_or_three : (k : ℤ) (b : Bool) → list_any (eq_by_cmp int_cmp k) (pos 2 ∷ pos 3 ∷ []) ≡ b → set.contains two_or_three k ≡ b
+pub in_two_or_three : (k : ℤ) (b : Bool) → list_any (eq_by_cmp int_cmp k) (pos 2 ∷ pos 3 ∷ []) ≡ b → set.contains two_or_three k ≡ b
 in_two_or_three k b e = in_pair (pos 2) (pos 3) k ∙ e
 
 pub member_is_covered : MemberIsCovered
@@ -139,7 +139,7 @@ equation_solves = record {
 pub circle_has_none : CircleHasNone
 circle_has_none q n m = no_circle m.by 0 2 (one_column (variable 0)) (inl refl) m.holds.0
 
-two_alone : (k : ℤ) → set.contains (set.intersection one_or_two two_or_three) k ≡ true → k ≡ pos 2
+pub two_alone : (k : ℤ) → set.contains (set.intersection one_or_two two_or_three) k ≡ true → k ≡ pos 2
 two_alone k h = int_is k (pos 2) (meet (int_eq k (pos 1)) (int_eq k (pos 2)) (int_eq k (pos 3)) refl refl refl (sym (in_pair (pos 1) (pos 2) k) ∙ in_left one_or_two two_or_three k h) (sym (in_pair (pos 2) (pos 3) k) ∙ in_right one_or_two two_or_three k h))
   where
     meet : (a b c : Bool) → int_eq k (pos 1) ≡ a → int_eq k (pos 2) ≡ b → int_eq k (pos 3) ≡ c → (a || (b || false)) ≡ true → (b || (c || false)) ≡ true → b ≡ true

@@ -32,38 +32,29 @@ canon same p =
 abbrev mutual
   pub same_tree : Tree ℕ → Tree ℕ → Bool
   same_tree (int n) (int m) = int_eq n m
-  same_tree (int n) (node g us) = false
-  same_tree (int n) (variable w) = false
-  same_tree (node f ts) (int m) = false
   same_tree (node f ts) (node g us) = nat_eq f g && same_trees ts us
-  same_tree (node f ts) (variable w) = false
-  same_tree (variable v) (int m) = false
-  same_tree (variable v) (node g us) = false
   same_tree (variable v) (variable w) = nat_eq v w
+  same_tree t u = false
 
   pub same_trees : Trees ℕ → Trees ℕ → Bool
   same_trees none none = true
-  same_trees none (more u us) = false
-  same_trees (more t ts) none = false
   same_trees (more t ts) (more u us) = same_tree t u && same_trees ts us
+  same_trees ts us = false
 
 abbrev pub same_list : List (Tree ℕ) → List (Tree ℕ) → Bool
 same_list [] [] = true
-same_list [] (u ∷ us) = false
-same_list (t ∷ ts) [] = false
 same_list (t ∷ ts) (u ∷ us) = same_tree t u && same_list ts us
+same_list ts us = false
 
 abbrev pub same_domain : Option Domain → Option Domain → Bool
 same_domain None None = true
-same_domain None (Some e) = false
-same_domain (Some d) None = false
 same_domain (Some d) (Some e) = set.is_subset d e && set.is_subset e d
+same_domain d e = false
 
 abbrev pub same_domains : List (Option Domain) → List (Option Domain) → Bool
 same_domains [] [] = true
-same_domains [] (e ∷ es) = false
-same_domains (d ∷ ds) [] = false
 same_domains (d ∷ ds) (e ∷ es) = same_domain d e && same_domains ds es
+same_domains ds es = false
 
 abbrev pub same_row : Row → Row → Bool
 same_row r q = same_trees r.columns q.columns && same_domains r.domains q.domains

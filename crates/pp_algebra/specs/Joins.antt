@@ -25,9 +25,13 @@ abbrev pub AllOf : ℕ → List Row → Type 0
 AllOf n rs = (q : Row) → IsIn q rs → IsCanonical q × (count q.columns ≡ n)
 
 -- rows of as many columns as this one
-abbrev pub AreWideAs : List Row → Row → Type 0
-AreWideAs rs r = (q : Row) → IsIn q rs → count q.columns ≡ count r.columns
+abbrev pub AreOfWidth : List Row → Row → Type 0
+AreOfWidth rs r = (q : Row) → IsIn q rs → count q.columns ≡ count r.columns
 
 -- the same rows stand in both lists, in whatever order and however often
 abbrev pub SameRows : List Row → List Row → Type 0
 SameRows rs qs = ((q : Row) → IsIn q rs → IsIn q qs) × ((q : Row) → IsIn q qs → IsIn q rs)
+
+-- the same, by its former name
+abbrev pub AreWideAs : List Row → Row → Type 0
+AreWideAs rs r = AreOfWidth rs r

@@ -1,16 +1,15 @@
 -- The laws of rows, covering, generalisation and solving, as statements.
-use Rattle.std.specs.Prelude.{◌≡◌, ℕ, ℤ, ◌<ℤ◌, ◌⊎◌, ◌↔◌, true, List, [], ◌∷◌, ◌++◌, map, AllPairs, Option, nat_eq}
+use Rattle.std.specs.Prelude.{◌≡◌, ℕ, ℤ, ◌<ℤ◌, ◌⊎◌, ◌↔◌, true, List, [], ◌∷◌, ◌++◌, AllPairs, Option, nat_eq}
 use Rattle.std.specs.FinSet as set
-use Rattle.std.proofs.Common.{inl, inr}
-use Rattle.pp_algebra.specs.Terms.{Trees, count, put_all, variables_all}
-use Rattle.pp_algebra.specs.Rows.{Domains, Pattern, Row, domain_at, pattern_of, Domain, IsCanonical, IsRow, AreWide}
+use Rattle.pp_algebra.specs.Terms.{Trees, variable, count, put_all, variables_all}
+use Rattle.pp_algebra.specs.Rows.{Domains, Pattern, Row, domain_at, beside, Domain, IsCanonical, IsRow}
 use Rattle.pp_algebra.specs.Covers.{RowCovers, IsIn}
 use Rattle.pp_algebra.specs.Members.{IsInteger, members}
 use Rattle.pp_algebra.specs.Canon.{canon, same_row}
 use Rattle.pp_algebra.specs.Least.{least_row}
-use Rattle.pp_algebra.specs.Joins.{Joins, rows_of, joined, AllOf, AreWideAs, SameRows}
-use Rattle.pp_algebra.specs.Solve.{Item, put_item, Holds, Meets, IsSolved, HasNone, Solvable, SameItems}
-use Rattle.pp_algebra.specs.Stages.{pattern, with_fresh, kept, moved, ColumnsSpeakOf, ItemsSpeakOf}
+use Rattle.pp_algebra.specs.Joins.{Joins, rows_of, joined, AllOf, AreOfWidth, SameRows}
+use Rattle.pp_algebra.specs.Solve.{Item, Holds, Meets, IsSolved, HasNone, Solvable, SameItems, HaveSameSolution}
+use Rattle.pp_algebra.specs.Stages.{pattern, ColumnsSpeakOf, ItemsSpeakOf, problem_at_once, problem_in_stages}
 
 abbrev pub CoversItself : Type 0
 CoversItself = (r : Row) → RowCovers r r
@@ -43,7 +42,7 @@ LeastIsLeast = (r : Row) (rs : List Row) (s : Row) → ((q : Row) → IsIn q (r 
 
 -- it depends on which rows there are, and not on their order or number
 abbrev pub LeastOfSame : Type 0
-LeastOfSame = (r q : Row) (rs qs : List Row) → AreWideAs (r ∷ rs) r → SameRows (r ∷ rs) (q ∷ qs) → least_row r rs ≡ least_row q qs
+LeastOfSame = (r q : Row) (rs qs : List Row) → AreOfWidth (r ∷ rs) r → SameRows (r ∷ rs) (q ∷ qs) → least_row r rs ≡ least_row q qs
 
 -- two rows may change places
 abbrev pub LeastCommutes : Type 0
@@ -58,15 +57,24 @@ LeastIsIdempotent = (r : Row) → IsCanonical r → least_row r (r ∷ []) ≡ r
 
 -- of more rows it is more general
 abbrev pub LeastOfMore : Type 0
-LeastOfMore = (r : Row) (rs more : List Row) → AreWideAs (r ∷ rs) r → RowCovers (least_row r (rs ++ more)) (least_row r rs)
+LeastOfMore = (r : Row) (rs more : List Row) → AreOfWidth (r ∷ rs) r → RowCovers (least_row r (rs ++ more)) (least_row r rs)
+
+-- of rows of one width it is a row: each domain is `any` or has at least two integers
+abbrev pub LeastIsRow : Type 0
+LeastIsRow = (r : Row) (rs : List Row) → AreOfWidth (r ∷ rs) r → IsRow r → ((q : Row) → IsIn q rs → IsRow q) → IsRow (least_row r rs)
 
 -- two lists may be generalised first each by itself
 abbrev pub LeastInParts : Type 0
-LeastInParts = (r q : Row) (rs qs : List Row) → AreWideAs ((r ∷ rs) ++ (q ∷ qs)) r → least_row (least_row r rs) (least_row q qs ∷ []) ≡ least_row r (rs ++ q ∷ qs)
+LeastInParts = (r q : Row) (rs qs : List Row) → AreOfWidth ((r ∷ rs) ++ (q ∷ qs)) r → least_row (least_row r rs) (least_row q qs ∷ []) ≡ least_row r (rs ++ q ∷ qs)
 
 -- joins in any order, any grouping and with repeats give the least generalisation of the whole list
 abbrev pub JoinsGiveLeast : Type 0
 JoinsGiveLeast = (n : ℕ) (r : Row) (rs : List Row) (j : Joins) → AllOf n (r ∷ rs) → SameRows (r ∷ rs) (rows_of j) → joined j ≡ least_row r rs
+
+-- other numbers for the variables that can be taken back, with the same domains, give the same canonical row
+abbrev pub RenamedIsSame : Type 0
+RenamedIsSame = (p : Pattern ℕ) (ds : Domains ℕ) (f g : ℕ → ℕ) → ((v : ℕ) → IsIn v (variables_all p.columns) → (g (f v) ≡ v) × (ds (f v) ≡ p.domains v))
+    → canon nat_eq (pattern (put_all (λ v. variable (f v)) p.columns) ds) ≡ canon nat_eq p
 
 -- a problem has at most one most general row
 abbrev pub SolvedOnce : Type 0 → Type 0
@@ -77,7 +85,7 @@ abbrev pub SolvedCovers : Type 0 → Type 0
 SolvedCovers V = (p : Pattern V) (items : List (Item V)) (r : Row) → IsSolved p items r → (q : Row) → IsRow q → Meets p items q ↔ RowCovers r q
 
 abbrev pub SolvedInAnyOrder : Type 0 → Type 0
-SolvedInAnyOrder V = (p : Pattern V) (items others : List (Item V)) → SameItems items others → ((r : Row) → IsSolved p items r ↔ IsSolved p others r) × (HasNone p items ↔ HasNone p others)
+SolvedInAnyOrder V = (p : Pattern V) (items others : List (Item V)) → SameItems items others → HaveSameSolution (p, items) (p, others)
 
 -- an item that the most general row meets already changes nothing
 abbrev pub SolvedWithMore : Type 0 → Type 0
@@ -95,24 +103,12 @@ NoneForAny V = (ts us : Trees V) (ds : Domains V) (items : List (Item V)) → Ha
 -- the row of the first items, and then of the later ones from that row on, is the row of all of them at once; W are fresh variables of the second stage
 abbrev pub SolvedInStages : Type 0 → Type 0 → Type 0
 SolvedInStages U W = (ts : Trees U) (ds : Domains U) (items : List (Item U)) (r : Row) (h : IsSolved (pattern ts ds) items r) (us : Trees (U ⊎ W)) (later : List (Item (U ⊎ W))) → ColumnsSpeakOf ts us → ItemsSpeakOf ts later
-    → ((q : Row) → IsSolved (pattern us (with_fresh W ds)) (map (put_item (kept W)) items ++ later) q ↔ IsSolved (pattern (put_all (moved W h.meets.by) us) (with_fresh W (domain_at r.domains))) (map (put_item (moved W h.meets.by)) later) q)
-    × (HasNone (pattern us (with_fresh W ds)) (map (put_item (kept W)) items ++ later) ↔ HasNone (pattern (put_all (moved W h.meets.by) us) (with_fresh W (domain_at r.domains))) (map (put_item (moved W h.meets.by)) later))
+    → HaveSameSolution (problem_at_once W ds items us later) (problem_in_stages W h.meets.by (domain_at r.domains) us later)
 
--- columns and items over the variables of a row
+-- columns and items over the variables of a row have a solution or none, whatever the domains are: empty ones and those of one integer too
 abbrev pub RowsSolve : Type 0
-RowsSolve = (ds : List (Option Domain)) (ts : Trees ℕ) (items : List (Item ℕ)) → AreWide ds → Solvable (record { columns = ts; domains = domain_at ds }) items
+RowsSolve = (ds : List (Option Domain)) (ts : Trees ℕ) (items : List (Item ℕ)) → Solvable (pattern ts (domain_at ds)) items
 
-abbrev pub two_kinds : List (Option Domain) → List (Option Domain) → Domains (ℕ ⊎ ℕ)
-two_kinds ds es (inl v) = domain_at ds v
-two_kinds ds es (inr v) = domain_at es v
-
--- columns and items over the variables of two rows
+-- and so have those over the variables of two rows
 abbrev pub PairsSolve : Type 0
-PairsSolve = (ds es : List (Option Domain)) (ts : Trees (ℕ ⊎ ℕ)) (items : List (Item (ℕ ⊎ ℕ))) → AreWide ds → AreWide es → Solvable (record { columns = ts; domains = two_kinds ds es }) items
-
--- the domains may also be empty or have one integer
-abbrev pub RowsAlwaysSolve : Type 0
-RowsAlwaysSolve = (ds : List (Option Domain)) (ts : Trees ℕ) (items : List (Item ℕ)) → Solvable (record { columns = ts; domains = domain_at ds }) items
-
-abbrev pub PairsAlwaysSolve : Type 0
-PairsAlwaysSolve = (ds es : List (Option Domain)) (ts : Trees (ℕ ⊎ ℕ)) (items : List (Item (ℕ ⊎ ℕ))) → Solvable (record { columns = ts; domains = two_kinds ds es }) items
+PairsSolve = (ds es : List (Option Domain)) (ts : Trees (ℕ ⊎ ℕ)) (items : List (Item (ℕ ⊎ ℕ))) → Solvable (pattern ts (beside (domain_at ds) (domain_at es))) items

@@ -11,4 +11,5 @@ pub mod Solve
 pub mod Stages
 pub mod Laws
 pub mod Examples
+pub mod SolvingExamples
 pub mod Texts

@@ -1,5 +1,6 @@
 -- Rows: columns of terms with a domain for each variable, the variables numbered by first occurrence.
 use Rattle.std.specs.Prelude.{◌≡◌, ℕ, zero, suc, ◌<◌, ◌≤◌, ◌⊎◌, List, [], ◌∷◌, Option, Some, None, All, length}
+use Rattle.std.proofs.Common.{inl, inr}
 use Rattle.std.specs.Ordering.{int_cmp}
 use Rattle.std.specs.FinSet as set
 use Rattle.pp_algebra.specs.Terms.{Trees, variables_all}
@@ -11,6 +12,11 @@ Domain = set.FinSet int_cmp
 -- the domains of variables: None is `any`
 abbrev pub Domains : Type 0 → Type 0
 Domains V = V → Option Domain
+
+-- two kinds of variables side by side, each with its domains
+abbrev pub beside : {V W : Type 0} → Domains V → Domains W → Domains (V ⊎ W)
+beside ds es (inl v) = ds v
+beside ds es (inr w) = es w
 
 -- columns over any variables, with their domains
 pub record Pattern (V : Type 0) : Type 0 where

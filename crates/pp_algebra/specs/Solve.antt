@@ -1,5 +1,5 @@
 -- Solving equations and memberships: the most general row that meets them, or none.
-use Rattle.std.specs.Prelude.{◌≡◌, ℕ, List, [], ◌∷◌, Some, ◌⊎◌}
+use Rattle.std.specs.Prelude.{◌≡◌, ℕ, List, [], ◌∷◌, Some, ◌⊎◌, ◌↔◌}
 use Rattle.pp_algebra.specs.Terms.{Tree, Trees, none, more, put, put_all}
 use Rattle.pp_algebra.specs.Rows.{Domain, Domains, Pattern, Row, domain_at, pattern_of, IsRow}
 use Rattle.pp_algebra.specs.Covers.{MayGo, Covers, IsIn}
@@ -50,3 +50,11 @@ Solvable p items = ((r : Row) × IsSolved p items r) ⊎ HasNone p items
 -- the same items stand in both lists, in whatever order and however often
 abbrev pub SameItems : {V : Type 0} → List (Item V) → List (Item V) → Type 0
 SameItems {V} items others = ((i : Item V) → IsIn i items → IsIn i others) × ((i : Item V) → IsIn i others → IsIn i items)
+
+-- a pattern with the items that it is to meet
+abbrev pub Problem : Type 0 → Type 0
+Problem V = Pattern V × List (Item V)
+
+-- the same row solves both problems, or none does
+abbrev pub HaveSameSolution : {V W : Type 0} → Problem V → Problem W → Type 0
+HaveSameSolution a b = ((r : Row) → IsSolved a.0 a.1 r ↔ IsSolved b.0 b.1 r) × (HasNone a.0 a.1 ↔ HasNone b.0 b.1)

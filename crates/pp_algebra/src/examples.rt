@@ -1,5 +1,6 @@
 //! Worked examples of the definitions.
 ghost use Rattle.pp_algebra.specs.Examples.{EqualPairsShare, OtherPairSeparates, IntegerAndAtom, CompoundsShare, NumberedByFirst, TwoVariablesCover, OneVariableDoesNot, MemberIsCovered, OtherIntegerIsNot, AnyIsNot, EquationSolves, CircleHasNone, DomainsMeet};
+ghost use Rattle.pp_algebra.specs.SolvingExamples.{SameSides, SidesDiffer, AnyIsReplaced, RangedIsReplaced, RangedAreMerged, MembersHold, VariablesAreNarrowed};
 
 /// What small rows have in common, how their variables are numbered, what covers what, and what solves what.
 pub fn worked_examples()
@@ -16,4 +17,15 @@ pub fn worked_examples()
     ensures equation_solves { EquationSolves }
     ensures circle_has_none { CircleHasNone }
     ensures domains_meet { DomainsMeet }
+{}
+
+/// How items are solved, one example or more for each kind of item.
+pub fn worked_solving()
+    ensures same_sides { SameSides }
+    ensures sides_differ { SidesDiffer }
+    ensures any_is_replaced { AnyIsReplaced }
+    ensures ranged_is_replaced { RangedIsReplaced }
+    ensures ranged_are_merged { RangedAreMerged }
+    ensures members_hold { MembersHold }
+    ensures variables_are_narrowed { VariablesAreNarrowed }
 {}

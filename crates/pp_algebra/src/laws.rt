@@ -1,6 +1,6 @@
 //! The laws that make the definitions trustworthy.
 ghost use Rattle.std.specs.Prelude.{ℕ, ◌⊎◌};
-ghost use Rattle.pp_algebra.specs.Laws.{CoversItself, CoversThrough, CoversBothWays, SameIsEqual, MembersAscend, MembersAreContained, LeastIsCanonical, LeastCovers, LeastIsLeast, LeastOfSame, LeastCommutes, LeastAssociates, LeastIsIdempotent, LeastOfMore, LeastInParts, JoinsGiveLeast, SolvedOnce, SolvedCovers, SolvedInAnyOrder, SolvedWithMore, SolvedInStages, SolvedForSome, NoneForAny, RowsSolve, PairsSolve, RowsAlwaysSolve, PairsAlwaysSolve};
+ghost use Rattle.pp_algebra.specs.Laws.{CoversItself, CoversThrough, CoversBothWays, SameIsEqual, RenamedIsSame, MembersAscend, MembersAreContained, LeastIsCanonical, LeastCovers, LeastIsLeast, LeastIsRow, LeastOfSame, LeastCommutes, LeastAssociates, LeastIsIdempotent, LeastOfMore, LeastInParts, JoinsGiveLeast, SolvedOnce, SolvedCovers, SolvedInAnyOrder, SolvedWithMore, SolvedInStages, SolvedForSome, NoneForAny, RowsSolve, PairsSolve};
 
 /// Covering is an order: each row covers itself, what covers a covering row covers what that covers, and
 /// canonical rows that cover each other are equal.
@@ -18,11 +18,12 @@ pub fn members_are_listed()
 {}
 
 /// The least generalisation of rows is canonical, covers each of them, and is covered by whatever covers each
-/// of them.
+/// of them. Of rows with wide domains it has wide domains.
 pub fn generalisation_is_least()
     ensures canonical { LeastIsCanonical }
     ensures covers { LeastCovers }
     ensures least { LeastIsLeast }
+    ensures row { LeastIsRow }
 {}
 
 /// The least generalisation depends on which rows there are alone: not on their order, nor on how often one
@@ -52,13 +53,16 @@ pub fn solving_is_unique()
 pub fn solving_ends()
     ensures rows { RowsSolve }
     ensures pairs { PairsSolve }
-    ensures all_rows { RowsAlwaysSolve }
-    ensures all_pairs { PairsAlwaysSolve }
 {}
 
 /// The test for equal rows passes exactly on equal rows.
 pub fn same_row_is_equality()
     ensures equal { SameIsEqual }
+{}
+
+/// Which numbers the variables had before is seen nowhere in a canonical row.
+pub fn numbering_forgets_the_numbers()
+    ensures same { RenamedIsSame }
 {}
 
 /// A row meets equations and memberships exactly where their most general row covers it.

@@ -4,9 +4,10 @@ use Rattle.std.proofs.Math.ListN.{length-map}
 use Rattle.pp_algebra.specs.Terms.{Tree, Trees, put_all}
 use Rattle.pp_algebra.specs.Rows.{Domain, Domains, Row, domain_at}
 use Rattle.pp_algebra.specs.Solve.{IsSolved}
+use Rattle.pp_algebra.specs.Stages.{with_fresh}
 use Rattle.pp_sld.specs.Goals.{Predicate, Goal, Clause, Program, Config, put_goal, with_goals, shapes, row_of}
 use Rattle.pp_sld.specs.Selection.{Act, calls, solves, never, splits, act, Selection, all_wait, selected, past, select_by, select, at_place}
-use Rattle.pp_sld.specs.Ways.{Way, pattern_of_way, Leads, Goes, around, values_of, built_in_way, clause_way, two_domains, Next, finished, left_loose, fails, one, choices, call_next, act_next, select_next, goals_next, next}
+use Rattle.pp_sld.specs.Ways.{Way, pattern_of_way, Leads, Goes, around, values_of, built_in_way, clause_way, Next, finished, left_loose, fails, one, choices, call_next, act_next, select_next, goals_next, next}
 use Rattle.pp_sld.specs.Trees.{Search, answer, loose, refused, passed, choice, Searches, no_more, child, failed, IsSearch, AreSearches}
 use Rattle.pp_algebra.specs.Covers.{MayGo}
 use Rattle.pp_algebra.specs.Solve.{Solvable}
@@ -44,7 +45,7 @@ reached-leads w r h =
     }
 
 -- a way is solved, with the most general row, or fails
-all_go : (q : Domains ℕ) (ds : List (Option Domain)) (b : ℕ ⊎ ℕ → Tree ℕ) → ((v : ℕ) → MayGo q (domain_at ds v) (b (inl v))) → (v : ℕ ⊎ ℕ) → MayGo q (two_domains ds v) (b v)
+all_go : (q : Domains ℕ) (ds : List (Option Domain)) (b : ℕ ⊎ ℕ → Tree ℕ) → ((v : ℕ) → MayGo q (domain_at ds v) (b (inl v))) → (v : ℕ ⊎ ℕ) → MayGo q (with_fresh ℕ (domain_at ds) v) (b v)
 all_go q ds b h (inl v) = h v
 all_go q ds b h (inr v) = tt
 

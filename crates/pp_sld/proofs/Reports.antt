@@ -17,7 +17,7 @@ pub walk_begins : WalkBegins
 walk_begins t w = sym (append-nil (worth w t))
 
 pub walk_goes_down : WalkGoesDown
-walk_goes_down t w xs ls rest n b p h = h ∙ ap (λ x. xs ++ (x ++ worths rest t)) (sym (down_levels ls n b t p))
+walk_goes_down t w xs ls rest n p h = h ∙ ap (λ x. xs ++ (x ++ worths rest t)) (sym (down_levels ls n t p))
 
 pub walk_goes_on : WalkGoesOn
 walk_goes_on t w xs v rest h =

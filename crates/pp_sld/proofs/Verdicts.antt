@@ -11,9 +11,9 @@ use Rattle.pp_algebra.proofs.Antisym.{IsIn-either}
 use Rattle.pp_algebra.specs.Canon.{same_row}
 use Rattle.pp_algebra.proofs.SameRow.{same_row-sound, same_row-itself}
 use Rattle.pp_algebra.proofs.Sets.{least_of_same, least_in_parts}
-use Rattle.pp_algebra.specs.Joins.{AllOf, AreWideAs, SameRows}
+use Rattle.pp_algebra.specs.Joins.{AllOf, AreOfWidth, SameRows}
 
-as_wide : (n : ℕ) (r : Row) (rs : List Row) → AllOf n (r ∷ rs) → AreWideAs (r ∷ rs) r
+as_wide : (n : ℕ) (r : Row) (rs : List Row) → AllOf n (r ∷ rs) → AreOfWidth (r ∷ rs) r
 as_wide n r rs h q i = (h q i).1 ∙ sym (h r (inl refl)).1
 
 pub least_list_same : (n : ℕ) (rs qs : List Row) → AllOf n rs → SameRows rs qs → least_list rs ≡ least_list qs

@@ -137,22 +137,31 @@ leaves_of_kids n refused h = absurd h
 leaves_of_kids n (passed t) h = leaves_of_kids n t h
 leaves_of_kids n (choice ts) h = (refl, h)
 
-down_here : (n : ℕ) (t : Search) → 0 < n → ComesTo n t → levels_worth (level 0 n ∷ []) t ≡ leaves t
-down_here n t b h =
-    let k = leaves_of_kids n t h in
-    sym (next_and_rest 0 n (kids t) b) ∙ ap (λ m. leaves_all (first_few m (kids t))) (let e : n - 0 ≡ count_kids (kids t) = omega (arith, k.1) in e) ∙ ap leaves_all (all_of (kids t)) ∙ sym k.0
+none_there : (ts : Searches) → count_kids ts ≡ 0 → ts ≡ no_more
+none_there no_more e = refl
+none_there (child t ts) e = absurd (omega (arith, e))
+none_there (failed ts) e = absurd (omega (arith, e))
+
+down_here : (n : ℕ) (t : Search) → ComesTo n t → levels_worth (level 0 n ∷ []) t ≡ leaves t
+down_here zero t h =
+    let k = leaves_of_kids zero t h in
+    let e = none_there (kids t) k.1 in
+    ap (λ ts. of_first leaves ts ++ leaves_all (between 1 0 ts)) e ∙ sym (k.0 ∙ ap leaves_all e)
+down_here (suc n) t h =
+    let k = leaves_of_kids (suc n) t h in
+    sym (next_and_rest 0 (suc n) (kids t) (omega arith)) ∙ ap (λ m. leaves_all (first_few m (kids t))) (let e : suc n - 0 ≡ count_kids (kids t) = omega (arith, k.1) in e) ∙ ap leaves_all (all_of (kids t)) ∙ sym k.0
 
 down_first : (f g : Search → List Leaf) (p : Search → Type 0) → ((t : Search) → p t → f t ≡ g t) → (ts : Searches) → FirstIs p ts → of_first f ts ≡ of_first g ts
 down_first f g p e no_more h = absurd h
 down_first f g p e (child t ts) h = e t h
 down_first f g p e (failed ts) h = absurd h
 
-pub down_levels : (ls : List Level) (n : ℕ) → 0 < n → (t : Search) → PathComesTo n (places ls) t → levels_worth (ls ++ level 0 n ∷ []) t ≡ levels_worth ls t
-down_levels [] n b t h = down_here n t b h
-down_levels (l ∷ ls) n b t h = ap (λ x. x ++ left_at l t) (down_first (levels_worth (ls ++ level 0 n ∷ [])) (levels_worth ls) (PathComesTo n (places ls)) (down_levels ls n b) (skip l.now (kids t)) h)
+pub down_levels : (ls : List Level) (n : ℕ) (t : Search) → PathComesTo n (places ls) t → levels_worth (ls ++ level 0 n ∷ []) t ≡ levels_worth ls t
+down_levels [] n t h = down_here n t h
+down_levels (l ∷ ls) n t h = ap (λ x. x ++ left_at l t) (down_first (levels_worth (ls ++ level 0 n ∷ [])) (levels_worth ls) (PathComesTo n (places ls)) (down_levels ls n) (skip l.now (kids t)) h)
 
 pub down_keeps : DownKeeps
-down_keeps ls n b t h = down_levels ls n b t h
+down_keeps ls n t h = down_levels ls n t h
 
 -- ===== a leaf of a work is a leaf of the tree
 

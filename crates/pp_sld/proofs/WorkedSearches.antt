@@ -5,9 +5,10 @@ use Rattle.pp_algebra.specs.Terms.{Tree, Trees, int, none}
 use Rattle.pp_algebra.specs.Rows.{IsWide, domain_at}
 use Rattle.pp_algebra.specs.Covers.{MayGo}
 use Rattle.pp_algebra.specs.Solve.{Item, equation, AllHold, IsSolved}
+use Rattle.pp_algebra.specs.Stages.{with_fresh}
 use Rattle.pp_algebra.specs.Examples.{number, one_column}
 use Rattle.pp_sld.specs.Goals.{Shape, user, Goal, Config, with_goals, row_of}
-use Rattle.pp_sld.specs.Ways.{Way, Leads, IsDead, two_domains, clause_way, built_in_way, next}
+use Rattle.pp_sld.specs.Ways.{Way, Leads, IsDead, clause_way, built_in_way, next}
 use Rattle.pp_sld.specs.SearchExamples.{predicate_p, fact, config, calls_p, is_less, EndsFollow, FactsAreTried, BuiltInIsPassed, LeftmostIsSelected, LeavesInOrder, PathsSkipBuiltIns, WorkGoesOn, WorkSplits, WorksInOrder, FindingsSettle, WalkStops}
 
 pub ends_follow : EndsFollow
@@ -19,14 +20,14 @@ ends_follow = (refl, refl, refl, refl)
 abbrev nowhere : ℕ ⊎ ℕ → Tree ℕ
 nowhere v = int (pos 0)
 
-goes : (v : ℕ ⊎ ℕ) → MayGo (domain_at []) (two_domains [] v) (nowhere v)
+goes : (v : ℕ ⊎ ℕ) → MayGo (domain_at []) (with_fresh ℕ (domain_at []) v) (nowhere v)
 goes (inl v) = tt
 goes (inr v) = tt
 
 abbrev done : Config
 done = config [] 0
 
-solved : (items : List (Item (ℕ ⊎ ℕ))) → AllHold (domain_at []) nowhere items → IsSolved (record { columns = none; domains = two_domains [] }) items (row_of done)
+solved : (items : List (Item (ℕ ⊎ ℕ))) → AllHold (domain_at []) nowhere items → IsSolved (record { columns = none; domains = with_fresh ℕ (domain_at []) }) items (row_of done)
 solved items h = record {
   row = record { canonical = refl; wide = All-nil IsWide };
   meets = record { by = nowhere; columns = refl; domains = goes; holds = h };
@@ -59,7 +60,7 @@ left = config (calls_p ∷ []) 0
 abbrev goal : Shape → Trees (ℕ ⊎ ℕ) → Goal (ℕ ⊎ ℕ)
 goal shape ts = record { shape = shape; arguments = ts }
 
-solved_left : IsSolved (record { columns = with_goals (goal (user predicate_p) (one_column (number 1)) ∷ []) none; domains = two_domains [] }) [] (row_of left)
+solved_left : IsSolved (record { columns = with_goals (goal (user predicate_p) (one_column (number 1)) ∷ []) none; domains = with_fresh ℕ (domain_at []) }) [] (row_of left)
 solved_left = record {
   row = record { canonical = refl; wide = All-nil IsWide };
   meets = record { by = nowhere; columns = refl; domains = goes; holds = tt };
@@ -92,7 +93,7 @@ pub work_goes_on : WorkGoesOn
 work_goes_on a b c = (refl, refl, refl, refl, refl, refl)
 
 pub work_splits : WorkSplits
-work_splits = (refl, refl, refl)
+work_splits = (refl, refl, refl, refl, refl, refl, refl, refl, refl)
 
 pub works_in_order : WorksInOrder
 works_in_order = (inr (refl, tt), inl (omega arith), λ h. h)

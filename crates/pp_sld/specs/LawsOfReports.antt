@@ -1,5 +1,5 @@
 -- The laws of reports, as statements.
-use Rattle.std.specs.Prelude.{◌≡◌, ℕ, ◌<◌, List, [], ◌∷◌, ◌++◌, Some}
+use Rattle.std.specs.Prelude.{◌≡◌, ℕ, List, [], ◌∷◌, ◌++◌, Some}
 use Rattle.pp_algebra.specs.Rows.{Row}
 use Rattle.pp_sld.specs.Trees.{Search}
 use Rattle.pp_sld.specs.Trace.{Leaf}
@@ -17,7 +17,7 @@ WalkBegins = (t : Search) (w : Work) → HasWalked t w [] (w ∷ [])
 
 -- down into a choice of n alternatives
 abbrev pub WalkGoesDown : Type 0
-WalkGoesDown = (t : Search) (w : Work) (xs : List Leaf) (ls : List Level) (rest : List Work) (n : ℕ) → 0 < n → PathComesTo n (places ls) t → HasWalked t w xs (at ls ∷ rest) → HasWalked t w xs (down n (at ls) ∷ rest)
+WalkGoesDown = (t : Search) (w : Work) (xs : List Leaf) (ls : List Level) (rest : List Work) (n : ℕ) → PathComesTo n (places ls) t → HasWalked t w xs (at ls ∷ rest) → HasWalked t w xs (down n (at ls) ∷ rest)
 
 -- on to the next sibling, when the leaves at the path are met
 abbrev pub WalkGoesOn : Type 0

@@ -1,5 +1,5 @@
 -- The laws of works and paths, as statements.
-use Rattle.std.specs.Prelude.{◌≡◌, ℕ, ◌<◌, ◌⊎◌, List, ◌++◌, Some, None}
+use Rattle.std.specs.Prelude.{◌≡◌, ℕ, ◌⊎◌, List, ◌++◌, Some, None}
 use Rattle.pp_algebra.specs.Covers.{IsIn}
 use Rattle.pp_sld.specs.Trees.{Search}
 use Rattle.pp_sld.specs.Trace.{Leaf, leaves}
@@ -24,7 +24,7 @@ SplitsWhereNext = (w : Work) → ((split w ≡ None) × (next w ≡ spent)) ⊎ 
 
 -- down into a choice of n alternatives, to which the path comes: nothing is given up
 abbrev pub DownKeeps : Type 0
-DownKeeps = (ls : List Level) (n : ℕ) → 0 < n → (t : Search) → PathComesTo n (places ls) t → worth (down n (at ls)) t ≡ worth (at ls) t
+DownKeeps = (ls : List Level) (n : ℕ) (t : Search) → PathComesTo n (places ls) t → worth (down n (at ls)) t ≡ worth (at ls) t
 
 -- a leaf of a work is a leaf of the tree
 abbrev pub WorthIsInside : Type 0

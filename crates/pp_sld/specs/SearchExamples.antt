@@ -81,7 +81,13 @@ WorkGoesOn = (a b c : Config) →
 
 abbrev pub WorkSplits : Type 0
 WorkSplits =
-    (split (at (level 0 3 ∷ level 0 2 ∷ [])) ≡ Some (at (level 0 1 ∷ level 0 2 ∷ []), at (level 1 3 ∷ [])))
+    (down 3 (at []) ≡ at (level 0 3 ∷ []))
+    × (split (at (level 0 3 ∷ [])) ≡ Some (at (level 0 1 ∷ []), at (level 1 3 ∷ [])))
+    × (split (at (level 0 1 ∷ [])) ≡ None)
+    × (works.next (at (level 0 1 ∷ [])) ≡ spent)
+    × (works.next (at (level 1 3 ∷ [])) ≡ at (level 2 3 ∷ []))
+    × (split (at (level 2 3 ∷ [])) ≡ None)
+    × (split (at (level 0 3 ∷ level 0 2 ∷ [])) ≡ Some (at (level 0 1 ∷ level 0 2 ∷ []), at (level 1 3 ∷ [])))
     × (split (at (level 2 3 ∷ level 0 2 ∷ [])) ≡ Some (at (level 2 3 ∷ level 0 1 ∷ []), at (level 2 3 ∷ level 1 2 ∷ [])))
     × (split (at (level 2 3 ∷ level 1 2 ∷ [])) ≡ None)
 

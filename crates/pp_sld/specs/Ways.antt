@@ -5,6 +5,7 @@ use Rattle.pp_algebra.specs.Members.{members}
 use Rattle.pp_algebra.specs.Terms.{Tree, int, node, variable, Trees, none, more, put_all, count}
 use Rattle.pp_algebra.specs.Rows.{Domain, Domains, Pattern, domain_at}
 use Rattle.pp_algebra.specs.Solve.{Item, put_item, equations, IsSolved, HasNone}
+use Rattle.pp_algebra.specs.Stages.{with_fresh}
 use Rattle.pp_sld.specs.Goals.{Predicate, Goal, Clause, Program, Config, put_goal, with_goals, shapes, row_of}
 use Rattle.pp_sld.specs.Selection.{Act, calls, solves, never, splits, at_place, Selection, all_wait, selected, select}
 
@@ -17,11 +18,10 @@ pub record Way : Type 0 where
   pub depth : ℕ
 
 abbrev pub two_domains : List (Option Domain) → Domains (ℕ ⊎ ℕ)
-two_domains ds (inl v) = domain_at ds v
-two_domains ds (inr v) = None
+two_domains ds = with_fresh ℕ (domain_at ds)
 
 abbrev pub pattern_of_way : Way → Pattern (ℕ ⊎ ℕ)
-pattern_of_way w = record { columns = with_goals w.goals w.columns; domains = two_domains w.domains }
+pattern_of_way w = record { columns = with_goals w.goals w.columns; domains = with_fresh ℕ (domain_at w.domains) }
 
 -- the way leads to this configuration
 pub record Leads (w : Way) (d : Config) : Type 0 where
