@@ -12,48 +12,11 @@ use Rattle.pp_row.specs.Codes.{stack-cells_of, tree_of-cells_of}
 use Rattle.pp_row.specs.Reading.{stack, all_of, tree_of, IsForest, IsOneTerm, from}
 use Rattle.pp_row.proofs.Next.{IsNext, next, count_from}
 use Rattle.pp_algebra.proofs.Joined.{count-join}
-use Rattle.pp_row.proofs.Piece.{piece, same_cells}
+use Rattle.pp_row.proofs.Piece.{same_cells}
+use Rattle.pp_row.proofs.InStep.{from_start, no_more}
 use Rattle.pp_lgg.specs.Pairs.{IsFixed, placed}
 use Rattle.pp_lgg.proofs.Common.{common, Agrees, agrees, apart}
 use Rattle.pp_lgg.proofs.Walked.{Walked, starts, step_agree, step_apart, ends}
-
--- the cells of one term
-reads : (o : Option (Trees ℕ)) (us : Trees ℕ) → o ≡ Some us → o ≡ Some (all_of o)
-reads o us e = rw e refl
-
-stack_one : (t : Tree ℕ) (cs : List Cell) → cs ≡ cells_of t → stack cs ≡ Some (more t none)
-stack_one t cs e = ap stack (e ∙ sym (append-nil (cells_of t))) ∙ stack-cells_of t [] none refl
-
-pub is_forest : (t : Tree ℕ) (cs : List Cell) → cs ≡ cells_of t → IsTerm t → IsForest cs
-is_forest t cs e l = record { legal = subst (All IsLegalCell) (sym e) l; reads = reads (stack cs) (more t none) (stack_one t cs e) }
-
-pub from_start : (t : Tree ℕ) (cs : List Cell) → cs ≡ cells_of t → from cs 0 ≡ more t none
-from_start t cs e = ap all_of (stack_one t cs e)
-
--- a piece is one term
-pub one_piece : (cs : List Cell) (i e : ℕ) (d : Cell) → IsForest cs → i < length cs → from cs e ≡ rest (from cs i) → i < e → e ≤ length cs → IsOneTerm (take (e - i) (drop i cs)) × (tree_of (take (e - i) (drop i cs)) ≡ first (from cs i))
-one_piece cs i e d h l s k m =
-    let p = piece cs i e d h l s k m in
-    let t : tree_of (take (e - i) (drop i cs)) ≡ first (from cs i) = ap (λ ds. tree_of ds) p ∙ tree_of-cells_of (first (from cs i)) in
-    (record { legal = All-take IsLegalCell (e - i) (drop i cs) (All-drop IsLegalCell i cs h.legal); whole = ap (λ t. cells_of t) t ∙ sym p }, t)
-
-count_some : (ts : Trees ℕ) → ts ≡ more (first ts) (rest ts) → count ts ≡ suc (count (rest ts))
-count_some ts e = ap count e
-
-count_next : (c : Cell) (ts us : Trees ℕ) → IsNext c ts us → suc (count us) ≡ count ts + arity_of c
-count_next c ts us n = omega (arith, ap count n.some, ap count n.inner, count-join (arguments (first ts)) (rest ts), n.arity)
-
--- the same number of terms is left of both
-module _ (cs ds : List Cell) (i j : ℕ) (d : Cell) (h : IsForest cs) (k : IsForest ds) (l : i < length cs) (e : count (from cs i) ≡ count (from ds j)) where
-  pub right_too : j ≤ length ds → j < length ds
-  right_too m = omega (arith, count_from ds j k m, e, count_some (from cs i) (next cs i d h l).some)
-
-  module _ (m : j < length ds) where
-    pub count_cell : get_or cs i d ≡ get_or ds j d → count (from cs (i + 1)) ≡ count (from ds (j + 1))
-    count_cell f = omega (arith, e, ap arity_of f, count_next (get_or cs i d) (from cs i) (from cs (i + 1)) (next cs i d h l), count_next (get_or ds j d) (from ds j) (from ds (j + 1)) (next ds j d k m))
-
-    pub count_term : count (rest (from cs i)) ≡ count (rest (from ds j))
-    count_term = omega (arith, e, count_some (from cs i) (next cs i d h l).some, count_some (from ds j) (next ds j d k m).some)
 
 agree_next : (c d : Cell) (ts us rs qs : Trees ℕ) → IsNext c ts rs → IsNext d us qs → c ≡ d → IsFixed c → Agrees c (common ts us) (common rs qs)
 agree_next c d none us rs qs n m e f = let a = n.some in absurd (cc)
@@ -80,10 +43,6 @@ module _ (start ns : List (List (Tree ℕ))) (whole : Trees (List (Tree ℕ))) (
 
 pub at_start : (start : List (List (Tree ℕ))) (t u : Tree ℕ) (cs ds : List Cell) → cs ≡ cells_of t → ds ≡ cells_of u → Walked start (more (least_tree t (u ∷ [])) none) (common (from cs 0) (from ds 0)) start []
 at_start start t u cs ds e f = rw (from_start t cs e, from_start u ds f) (starts start (more (least_tree t (u ∷ [])) none))
-
-no_more : (ts : Trees ℕ) → count ts ≤ 0 → ts ≡ none
-no_more none h = refl
-no_more (more t ts) h = absurd (omega arith)
 
 pub at_end : (start ns : List (List (Tree ℕ))) (t u : Tree ℕ) (cs out : List Cell) (rs : Trees ℕ) (i : ℕ) → IsForest cs → length cs ≤ i → i ≤ length cs → Walked start (more (least_tree t (u ∷ [])) none) (common (from cs i) rs) ns out → (ns ≡ firsts same_list start (variables (least_tree t (u ∷ [])))) × (cells_of (put (placed ns) (least_tree t (u ∷ []))) ≡ out)
 at_end start ns t u cs out rs i h k l w = ends start ns (least_tree t (u ∷ [])) out (subst (λ z. Walked start (more (least_tree t (u ∷ [])) none) (common z rs) ns out) (no_more (from cs i) (omega (arith, count_from cs i h l))) w)

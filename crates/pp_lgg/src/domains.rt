@@ -12,27 +12,8 @@ ghost use Rattle.pp_lgg.specs.Values.{values_at};
 use crate::pair::Pair;
 use indexmap::IndexSet;
 use pp_domain::Domain;
-use pp_row::Cell;
+use pp_row::{Cell, copy_at};
 use std::alloc::{AllocError, Global};
-
-fn copy_of(domain: &Option<Domain>) -> Result<Option<Domain>, AllocError>
-    ensures { IfOk result (λ d. d ≡ domain.now) }
-{
-    match domain {
-        Some(domain) => Ok(Some(domain.copy()?)),
-        None => Ok(None),
-    }
-}
-
-/// A copy of the domain of a variable, which is `any` where it has no place in the list.
-fn copy_at(domains: &[Option<Domain>], variable: u32) -> Result<Option<Domain>, AllocError>
-    ensures { IfOk result (λ d. set_by d ≡ domain_at (sets_of domains.now) variable) }
-{
-    match domains.get(variable as usize) {
-        Some(domain) => copy_of(domain),
-        None => Ok(None),
-    }
-}
 
 /// The domain of one integer.
 fn single(alloc: Global, value: i64) -> Result<Option<Domain>, AllocError>

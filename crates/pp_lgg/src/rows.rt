@@ -9,7 +9,9 @@ use indexmap::IndexSet;
 use pp_row::Row;
 use std::alloc::{AllocError, Global};
 
-/// The least row that covers both.
+/// The least row that covers both: the least general generalisation of their columns (Plotkin, *A Note on Inductive
+/// Generalization*, and Reynolds, *Transformational Systems and the Algebraic Structure of Atomic Formulas*, both in
+/// Machine Intelligence 5, 1970), where the domain of each variable is what it stands for in both rows.
 pub fn join(alloc: Global, a: &Row, b: &Row) -> Result<Row, AllocError>
     requires same_width { count a.now.columns ≡ count b.now.columns }
     ensures least { IfOk result (λ row. row ≡ least_row a.now (b.now ∷ [])) }

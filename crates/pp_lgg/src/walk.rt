@@ -2,13 +2,12 @@
 ghost use Rattle.std.specs.Prelude.{◌≡◌, ◌<◌, ◌≤◌, ◌+◌, ◌↔◌, ◌∷◌, [], length, All, IfOk, IsTrue};
 ghost use Rattle.pp_algebra.specs.Terms.{put, variables};
 ghost use Rattle.pp_algebra.specs.Canon.{firsts, place, same_list};
-ghost use Rattle.pp_algebra.specs.Least.{first, rest, least_tree};
-ghost use Rattle.pp_row.specs.Reading.{IsForest, IsOneTerm, from, tree_of};
+ghost use Rattle.pp_algebra.specs.Least.{least_tree};
 ghost use Rattle.pp_lgg.specs.Pairs.{IsPair, IsFixed, name, names, placed};
 
 use crate::pair::Pair;
 use indexmap::IndexSet;
-use pp_row::{Cell, Term, end_of};
+use pp_row::{Cell, Term, term_from};
 use std::alloc::{AllocError, Global};
 
 /// The place of the pair among the pairs, which take it in where it is new.
@@ -22,19 +21,6 @@ fn number<'a>(pairs: &mut IndexSet<Pair<'a>>, pair: Pair<'a>) -> Result<u32, All
     let (place, _) = pairs.insert_full(pair)?;
     let number = u32::try_from(place).map_err(|_| AllocError)?;
     Ok(number)
-}
-
-/// The cells of the term that begins at `start`.
-fn term_at(cells: &[Cell], start: usize) -> &[Cell]
-    requires whole { IsForest cells.now }
-    requires within { start < length cells.now }
-    ensures whole { IsOneTerm result.now }
-    ensures term { tree_of result.now ≡ first (from cells.now start) }
-    ensures ends { from cells.now (start + length result.now) ≡ rest (from cells.now start) }
-    ensures within { start + length result.now ≤ length cells.now }
-    ensures some { 0 < length result.now }
-{
-    &cells[start..end_of(cells, start)]
 }
 
 /// Whether both are one name with as many arguments, or one integer.
@@ -71,8 +57,8 @@ pub(crate) fn joined<'a>(
             j += 1;
         } else {
             let pair = Pair {
-                left: term_at(left, i),
-                right: term_at(right, j),
+                left: term_from(left, i),
+                right: term_from(right, j),
             };
             cells.push(Cell::Var(number(pairs, pair)?))?;
             i += pair.left.len();

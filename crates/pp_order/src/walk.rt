@@ -3,29 +3,15 @@ ghost use Rattle.std.specs.Prelude.{◌≡◌, ◌<◌, ◌≤◌, ◌+◌, ◌�
 ghost use Rattle.pp_algebra.specs.Terms.{Tree, variables, more, none};
 ghost use Rattle.pp_algebra.specs.Rows.{IsNumbered, domain_at};
 ghost use Rattle.pp_algebra.specs.Covers.{MayGo};
-ghost use Rattle.pp_algebra.specs.Least.{first, rest};
 ghost use Rattle.pp_row.specs.Columns.{sets_of};
-ghost use Rattle.pp_row.specs.Reading.{IsForest, IsOneTerm, from, tree_of};
+ghost use Rattle.pp_row.specs.Reading.{IsOneTerm, from, tree_of};
 ghost use Rattle.pp_order.specs.Bindings.{AreBound, Follows, Takes, terms, term_of};
 
 use crate::reach::may_go;
 use pp_domain::Domain;
-use pp_row::{Cell, Term, end_of};
+use pp_row::{Cell, Term, term_from};
 use smallvec::SmallVec;
 use std::alloc::AllocError;
-
-/// The cells of the term that begins at `start`.
-fn term_at(cells: &[Cell], start: usize) -> &[Cell]
-    requires whole { IsForest cells.now }
-    requires within { start < length cells.now }
-    ensures whole { IsOneTerm result.now }
-    ensures term { tree_of result.now ≡ first (from cells.now start) }
-    ensures ends { from cells.now (start + length result.now) ≡ rest (from cells.now start) }
-    ensures within { start + length result.now ≤ length cells.now }
-    ensures some { 0 < length result.now }
-{
-    &cells[start..end_of(cells, start)]
-}
 
 /// Whether the variable may stand for the term. One that is bound already may only stand for its term, and the
 /// next one is bound.
@@ -75,7 +61,7 @@ pub(crate) fn covers_term<'a>(
     let mut j = 0;
     for i in 0..left.len() {
         if let Cell::Var(variable) = left[i] {
-            let term = term_at(right, j);
+            let term = term_from(right, j);
             if !bind(bound, variable, term, general, special)? {
                 return Ok(false);
             }

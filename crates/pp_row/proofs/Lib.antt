@@ -7,5 +7,6 @@ pub mod Stack
 pub mod Next
 pub mod Decide
 pub mod Piece
+pub mod InStep
 pub mod Renaming
 pub mod Substituted

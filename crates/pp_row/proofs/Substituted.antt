@@ -1,10 +1,8 @@
 -- The cells of a term with terms in place of its variables.
-use Rattle.std.proofs.Common.{◌≡◌, ℕ, zero, suc, ◌+◌, ◌<◌, ◌≤◌, ◌^◌, List, [], ◌∷◌, ◌++◌, map, length, take, get_or, refl, ap, sym, ◌∙◌, append-nil, append_assoc, All, inl, inr, subst, arith}
+use Rattle.std.proofs.Common.{◌≡◌, ℕ, zero, suc, ◌<◌, List, [], ◌∷◌, length, get_or, refl, ap, sym, ◌∙◌, append-nil, All, subst, arith}
 use Rattle.std.specs.List.{flat_map}
 use Rattle.std.proofs.lemmas.List.Concat.{flat_map-append}
-use Rattle.std.proofs.lemmas.List.{take_more}
 use Rattle.pp_row.specs.declared.cell.Cell.{Cell}
-use Rattle.pp_row.specs.declared.cell.Cell.TheVariants.{Int, Atom, Compound, Var}
 use Rattle.pp_algebra.specs.Terms.{Tree, int, node, variable, Trees, none, more, put, put_all, variables, count}
 use Rattle.pp_algebra.specs.Covers.{IsIn}
 use Rattle.pp_algebra.proofs.Order.{IsIn-left, IsIn-right}
@@ -14,7 +12,7 @@ use Rattle.pp_row.specs.Reading.{tree_of, IsOneTerm}
 use Rattle.pp_row.specs.Codes.{tree_of-cells_of}
 use Rattle.pp_row.proofs.Renaming.{among-cells_of}
 use Rattle.pp_row.specs.Cells.{variables_among}
-use Rattle.pp_row.specs.Substitution.{term_at, put_cell}
+use Rattle.pp_row.specs.Substitution.{put_cell}
 
 module _ (s : ℕ → Tree ℕ) where
   put_head : (f k : ℕ) → put_cell s (head_of f k) ≡ head_of f k ∷ []

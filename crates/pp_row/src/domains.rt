@@ -63,7 +63,7 @@ pub(crate) fn same_domains(left: &[Option<Domain>], right: &[Option<Domain>]) ->
 }
 
 /// A copy of the domain of a variable, which is `any` where it has no place in the list.
-fn copy_at(domains: &[Option<Domain>], variable: u32) -> Result<Option<Domain>, AllocError>
+pub fn copy_at(domains: &[Option<Domain>], variable: u32) -> Result<Option<Domain>, AllocError>
     ensures { IfOk result (λ d. set_by d ≡ domain_at (sets_of domains.now) variable) }
 {
     match domains.get(variable as usize) {

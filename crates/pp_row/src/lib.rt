@@ -11,9 +11,9 @@ mod term;
 mod terms;
 
 pub use cell::Cell;
-pub use domains::copy_domain;
+pub use domains::{copy_at, copy_domain};
 pub use given::Given;
 pub use row::{Row, same_terms};
-pub use span::end_of;
+pub use span::{end_of, term_from};
 pub use term::Term;
 pub use terms::Terms;

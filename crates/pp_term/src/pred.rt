@@ -28,7 +28,10 @@ pub enum Relation {
 /// How the answers of an annotated goal are used.
 #[derive(Clone, Copy, Debug, PartialEq, Eq)]
 pub enum Mode {
+    /// Narrow to what all answers have in common.
     Most,
+    /// Narrow to the answer where there is exactly one.
     Unique,
+    /// Fail where there is no answer; narrow nothing.
     Consistent,
 }

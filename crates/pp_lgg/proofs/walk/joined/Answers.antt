@@ -5,7 +5,8 @@ use Rattle.pp_algebra.specs.Terms.{put, count}
 use Rattle.pp_row.specs.declared.cell.Cell.TheVariants.{Int}
 use Rattle.pp_row.specs.Cells.{IsLegalCell}
 use Rattle.pp_lgg.specs.Pairs.{names, placed}
-use Rattle.pp_lgg.proofs.Steps.{is_forest, from_start, right_too, count_cell, count_term, past_cell, past_pair, at_start, at_end, is_made, made}
+use Rattle.pp_row.proofs.InStep.{is_forest, from_start, right_too, count_cell, count_term}
+use Rattle.pp_lgg.proofs.Steps.{past_cell, past_pair, at_start, at_end, is_made, made}
 use Rattle.pp_lgg.proofs.walk.joined.Goals as goal
 
 pub loop-i-init : goal.loop-i-init
@@ -43,14 +44,14 @@ loop-i-preserved-then-agree c =
       walked = rw c.in_ok-push.ensures.items (past_cell _ (names c.loop-i.pairs.keys) _ c.loop-i.cells.items cs ds c.loop-i.i c.loop-i.j (Int (pos 0)) f g l m i.walked e.0 e.1);
     }
 
-pub term_at-requires-clause-whole : goal.term_at-requires-clause-whole
-term_at-requires-clause-whole c = is_forest c.args.a.now c.cells-left.result.now c.cells-left.ensures.cells c.cells-left.ensures.term
+pub term_from-requires-clause-whole : goal.term_from-requires-clause-whole
+term_from-requires-clause-whole c = is_forest c.args.a.now c.cells-left.result.now c.cells-left.ensures.cells c.cells-left.ensures.term
 
-pub term_at-requires-else-agree-clause-whole : goal.term_at-requires-else-agree-clause-whole
-term_at-requires-else-agree-clause-whole c = is_forest c.args.b.now c.cells-right.result.now c.cells-right.ensures.cells c.cells-right.ensures.term
+pub term_from-requires-else-agree-clause-whole : goal.term_from-requires-else-agree-clause-whole
+term_from-requires-else-agree-clause-whole c = is_forest c.args.b.now c.cells-right.result.now c.cells-right.ensures.cells c.cells-right.ensures.term
 
-pub term_at-requires-else-agree-clause-within : goal.term_at-requires-else-agree-clause-within
-term_at-requires-else-agree-clause-within c =
+pub term_from-requires-else-agree-clause-within : goal.term_from-requires-else-agree-clause-within
+term_from-requires-else-agree-clause-within c =
     let f = is_forest c.args.a.now c.cells-left.result.now c.cells-left.ensures.cells c.cells-left.ensures.term in
     let g = is_forest c.args.b.now c.cells-right.result.now c.cells-right.ensures.cells c.cells-right.ensures.term in
     right_too c.cells-left.result.now c.cells-right.result.now c.loop-i.i c.loop-i.j (Int (pos 0)) f g c.loop-i-test.true c.loop-i.invariant.same c.loop-i.invariant.right
@@ -64,15 +65,15 @@ loop-i-preserved c =
     let i = c.loop-i.invariant in
     let l = c.loop-i-test.true in
     let m = right_too cs ds c.loop-i.i c.loop-i.j (Int (pos 0)) f g l i.same i.right in
-    let x = c.term_at.ensures in
-    let y = c.term_at-else-agree.ensures in
+    let x = c.term_from.ensures in
+    let y = c.term_from-else-agree.ensures in
     record {
       left = x.within;
       right = y.within;
       same = ap count x.ends ∙ count_term cs ds c.loop-i.i c.loop-i.j (Int (pos 0)) f g l i.same m ∙ sym (ap count y.ends);
       legal = rw c.in_ok-push-2.ensures.items (All-push IsLegalCell c.loop-i.cells.items _ i.legal tt);
       pairs = c.in_ok-number.ensures.pairs;
-      walked = rw c.in_ok-push-2.ensures.items (past_pair _ (names c.loop-i.pairs.keys) _ c.loop-i.cells.items cs ds c.loop-i.i c.loop-i.j (Int (pos 0)) f g l m i.walked (names c.number.new.pairs.keys) _ (c.loop-i.i + length c.term_at.result.now) (c.loop-i.j + length c.term_at-else-agree.result.now) c.in_ok-number.field-0 (λ a b. let z = c.agree.ensures.1 (a, b) in absurd (cc (z, c.if-agree.false))) (rw (x.term, y.term) refl) x.ends y.ends c.in_ok-number.ensures.names c.in_ok-number.ensures.place);
+      walked = rw c.in_ok-push-2.ensures.items (past_pair _ (names c.loop-i.pairs.keys) _ c.loop-i.cells.items cs ds c.loop-i.i c.loop-i.j (Int (pos 0)) f g l m i.walked (names c.number.new.pairs.keys) _ (c.loop-i.i + length c.term_from.result.now) (c.loop-i.j + length c.term_from-else-agree.result.now) c.in_ok-number.field-0 (λ a b. let z = c.agree.ensures.1 (a, b) in absurd (cc (z, c.if-agree.false))) (rw (x.term, y.term) refl) x.ends y.ends c.in_ok-number.ensures.names c.in_ok-number.ensures.place);
     }
 
 pub unwrap-requires : goal.unwrap-requires

@@ -10,7 +10,7 @@ use Rattle.pp_row.specs.Columns.{sets_of}
 use Rattle.pp_row.specs.Reading.{from, tree_of}
 use Rattle.pp_row.proofs.Next.{next}
 use Rattle.pp_order.specs.Bindings.{terms}
-use Rattle.pp_order.proofs.Steps.{is_forest, from_start, right_too, count_cell, count_term, nothing_left}
+use Rattle.pp_row.proofs.InStep.{is_forest, from_start, right_too, count_cell, count_term, nothing_left}
 use Rattle.pp_order.proofs.Taking.{ahead_variable, ahead_term, cells_equal, cells_differ}
 use Rattle.pp_order.proofs.Walking.{starts, started, no_further, step_variable, other_variable, step_cell, other_cell, at_end, ends_numbered}
 use Rattle.pp_order.proofs.walk.covers_term.Goals as goal
@@ -27,11 +27,11 @@ loop-i-init c =
       walked = rw (e, f) (starts (domain_at (sets_of c.args.general.now)) (domain_at (sets_of c.args.special.now)) (terms c.args.bound.now.items) _ _);
     }
 
-pub term_at-term-requires-clause-whole : goal.term_at-term-requires-clause-whole
-term_at-term-requires-clause-whole c = is_forest c.args.b.now c.cells-right.result.now c.cells-right.ensures.cells c.cells-right.ensures.term
+pub term_from-term-requires-clause-whole : goal.term_from-term-requires-clause-whole
+term_from-term-requires-clause-whole c = is_forest c.args.b.now c.cells-right.result.now c.cells-right.ensures.cells c.cells-right.ensures.term
 
-pub term_at-term-requires-clause-within : goal.term_at-term-requires-clause-within
-term_at-term-requires-clause-within c =
+pub term_from-term-requires-clause-within : goal.term_from-term-requires-clause-within
+term_from-term-requires-clause-within c =
     let f = is_forest c.args.a.now c.cells-left.result.now c.cells-left.ensures.cells c.cells-left.ensures.term in
     let g = is_forest c.args.b.now c.cells-right.result.now c.cells-right.ensures.cells c.cells-right.ensures.term in
     right_too c.cells-left.result.now c.cells-right.result.now c.loop-i.i c.loop-i.j (Int (pos 0)) f g c.loop-i-test.true c.loop-i.invariant.same c.loop-i.invariant.right
@@ -44,9 +44,9 @@ bind-requires-clause-next c =
     let g = is_forest c.args.b.now ds c.cells-right.ensures.cells c.cells-right.ensures.term in
     let l = c.loop-i-test.true in
     let m = right_too cs ds c.loop-i.i c.loop-i.j (Int (pos 0)) f g l c.loop-i.invariant.same c.loop-i.invariant.right in
-    let x = c.term_at-term.ensures in
+    let x = c.term_from-term.ensures in
     let a = ahead_variable cs c.loop-i.i (Int (pos 0)) c.in-Var.variable f l c.in-Var.is in
-    let b = ahead_term ds c.loop-i.j (c.loop-i.j + length c.term_at-term.result.now) (Int (pos 0)) (tree_of c.term_at-term.result.now) g m x.term x.ends in
+    let b = ahead_term ds c.loop-i.j (c.loop-i.j + length c.term_from-term.result.now) (Int (pos 0)) (tree_of c.term_from-term.result.now) g m x.term x.ends in
     let k = no_further _ _ (terms c.args.bound.now.items) (terms c.loop-i.bound.items) _ _ _ _ c.loop-i.invariant.walked c.in-Var.variable _ _ _ a b c.requires.numbered.0 (started c.args.bound.now.items c.args.a.now c.requires.numbered.0 c.requires.numbered.1) in
     rw length-map at k
 
@@ -58,11 +58,11 @@ returns-then-not-branch-clause-apart c = λ _.
     let g = is_forest c.args.b.now ds c.cells-right.ensures.cells c.cells-right.ensures.term in
     let l = c.loop-i-test.true in
     let m = right_too cs ds c.loop-i.i c.loop-i.j (Int (pos 0)) f g l c.loop-i.invariant.same c.loop-i.invariant.right in
-    let x = c.term_at-term.ensures in
+    let x = c.term_from-term.ensures in
     let a = ahead_variable cs c.loop-i.i (Int (pos 0)) c.in-Var.variable f l c.in-Var.is in
-    let b = ahead_term ds c.loop-i.j (c.loop-i.j + length c.term_at-term.result.now) (Int (pos 0)) (tree_of c.term_at-term.result.now) g m x.term x.ends in
+    let b = ahead_term ds c.loop-i.j (c.loop-i.j + length c.term_from-term.result.now) (Int (pos 0)) (tree_of c.term_from-term.result.now) g m x.term x.ends in
     let k = no_further _ _ (terms c.args.bound.now.items) (terms c.loop-i.bound.items) _ _ _ _ c.loop-i.invariant.walked c.in-Var.variable _ _ _ a b c.requires.numbered.0 (started c.args.bound.now.items c.args.a.now c.requires.numbered.0 c.requires.numbered.1) in
-    other_variable _ _ (terms c.args.bound.now.items) _ _ _ _ _ _ c.loop-i.bound.items c.bind.new.bound.items c.term_at-term.result c.in-Var.variable c.in_ok-bind.field-0 a b (rw length-map at k) c.loop-i.invariant.walked c.loop-i.invariant.bound c.in_ok-bind.ensures.old c.in_ok-bind.ensures.new (λ h. absurd (cc (h, c.if-not-branch.true)))
+    other_variable _ _ (terms c.args.bound.now.items) _ _ _ _ _ _ c.loop-i.bound.items c.bind.new.bound.items c.term_from-term.result c.in-Var.variable c.in_ok-bind.field-0 a b (rw length-map at k) c.loop-i.invariant.walked c.loop-i.invariant.bound c.in_ok-bind.ensures.old c.in_ok-bind.ensures.new (λ h. absurd (cc (h, c.if-not-branch.true)))
 
 pub bounds-right-j : goal.bounds-right-j
 bounds-right-j c =
@@ -94,15 +94,15 @@ loop-i-preserved c =
     let m = right_too cs ds c.loop-i.i c.loop-i.j (Int (pos 0)) f g l i.same i.right in
     elim c.match-left-i.branch [
       | in-Var+in_ok-bind+else-not-branch w ↦ (
-          let x = w.term_at-term.ensures in
+          let x = w.term_from-term.ensures in
           let a = ahead_variable cs c.loop-i.i (Int (pos 0)) w.in-Var.variable f l w.in-Var.is in
-          let b = ahead_term ds c.loop-i.j (c.loop-i.j + length w.term_at-term.result.now) (Int (pos 0)) (tree_of w.term_at-term.result.now) g m x.term x.ends in
+          let b = ahead_term ds c.loop-i.j (c.loop-i.j + length w.term_from-term.result.now) (Int (pos 0)) (tree_of w.term_from-term.result.now) g m x.term x.ends in
           let k = no_further _ _ (terms c.args.bound.now.items) (terms c.loop-i.bound.items) _ _ _ _ i.walked w.in-Var.variable _ _ _ a b c.requires.numbered.0 (started c.args.bound.now.items c.args.a.now c.requires.numbered.0 c.requires.numbered.1) in
           rw (w.bound-is, w.j-is) (record {
             right = x.within;
             same = ap (λ ts. count (rest ts)) (sym a) ∙ count_term cs ds c.loop-i.i c.loop-i.j (Int (pos 0)) f g l i.same m ∙ sym (ap count x.ends);
             bound = w.in_ok-bind.ensures.bound;
-            walked = step_variable _ _ (terms c.args.bound.now.items) _ _ _ _ _ _ c.loop-i.bound.items w.bind.new.bound.items w.term_at-term.result w.in-Var.variable w.in_ok-bind.field-0 a b (rw length-map at k) i.walked i.bound w.in_ok-bind.ensures.old w.in_ok-bind.ensures.new w.if-not-branch.false;
+            walked = step_variable _ _ (terms c.args.bound.now.items) _ _ _ _ _ _ c.loop-i.bound.items w.bind.new.bound.items w.term_from-term.result w.in-Var.variable w.in_ok-bind.field-0 a b (rw length-map at k) i.walked i.bound w.in_ok-bind.ensures.old w.in_ok-bind.ensures.new w.if-not-branch.false;
           })
           )
       | in_default+else-ne w ↦ (

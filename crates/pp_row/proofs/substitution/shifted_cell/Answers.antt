@@ -1,4 +1,4 @@
-use Rattle.std.proofs.Common.{◌+◌, ◌<◌, refl, sym, subst, inl, arith}
+use Rattle.std.proofs.Common.{refl, sym, subst, inl, arith}
 use Rattle.pp_algebra.specs.Covers.{IsIn}
 use Rattle.pp_row.specs.Cells.{variables_in}
 use Rattle.pp_row.proofs.substitution.shifted_cell.Goals as goal

@@ -1,4 +1,4 @@
-use Rattle.std.proofs.Common.{◌≡◌, ap, ◌∙◌}
+use Rattle.std.proofs.Common.{ap, ◌∙◌}
 use Rattle.std.specs.List.{flat_map}
 use Rattle.pp_algebra.specs.Terms.{put}
 use Rattle.pp_row.specs.Substitution.{term_at, put_cell}

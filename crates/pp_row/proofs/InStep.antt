@@ -1,5 +1,5 @@
--- One step further in the cells of two terms.
-use Rattle.std.proofs.Common.{◌≡◌, ℕ, suc, ◌+◌, ◌-◌, ◌<◌, ◌≤◌, List, [], ◌∷◌, length, take, drop, get_or, Some, Option, All, refl, ap, ◌∙◌, sym, arith, subst, append-nil}
+-- Two terms walked in step: one term of their cells, and as many terms left of both.
+use Rattle.std.proofs.Common.{◌≡◌, ℕ, suc, ◌+◌, ◌-◌, ◌<◌, ◌≤◌, List, [], length, take, drop, get_or, Some, Option, All, refl, ap, ◌∙◌, sym, arith, subst, append-nil}
 use Rattle.std.proofs.lemmas.List.Elements.{All-drop, All-take}
 use Rattle.pp_row.specs.declared.cell.Cell.{Cell}
 use Rattle.pp_algebra.specs.Terms.{Tree, Trees, none, more, count}
@@ -49,7 +49,7 @@ module _ (cs ds : List Cell) (i j : ℕ) (d : Cell) (h : IsForest cs) (k : IsFor
     pub count_term : count (rest (from cs i)) ≡ count (rest (from ds j))
     count_term = omega (arith, e, count_some (from cs i) (next cs i d h l).some, count_some (from ds j) (next ds j d k m).some)
 
-no_more : (ts : Trees ℕ) → count ts ≤ 0 → ts ≡ none
+pub no_more : (ts : Trees ℕ) → count ts ≤ 0 → ts ≡ none
 no_more none h = refl
 no_more (more t ts) h = absurd (omega arith)
 
