@@ -1,77 +1,96 @@
--- Words and a text call for at most one reply.
-use Rattle.std.proofs.Common.{◌≡◌, List, ap, sym, ◌∙◌, subst, inl, inr}
-use Rattle.std.specs.Prelude.{◌⊎◌}
+-- Words, a text and what was told call for at most one reply.
+use Rattle.std.proofs.Common.{◌≡◌, ℕ, List, [], ◌++◌, ap, sym, ◌∙◌, subst}
+use Rattle.std.specs.Prelude.{cond}
 use Rattle.pp_sld.specs.Goals.{program_of}
+use Rattle.pp_language.specs.declared.command.CommandKind.{CommandKind}
+use Rattle.pp_language.specs.declared.command.CommandKind.TheVariants.{Run as Workers, Alone, Make}
+use Rattle.pp_language.specs.declared.command.Settings.{Settings}
+use Rattle.pp_language.specs.declared.command.Command.{Command}
 use Rattle.pp_language.specs.declared.status.Status.{Status}
 use Rattle.pp_language.specs.Texts.{Text}
 use Rattle.pp_language.specs.Programs.{Written}
-use Rattle.pp_language.specs.Limits.{Writes}
+use Rattle.pp_language.specs.Faults.{IsSyntaxFault}
+use Rattle.pp_language.specs.Limits.{Writes, Passes}
+use Rattle.pp_language.specs.Answers.{limit_text, which_name, syntax_text}
+use Rattle.pp_language.specs.Generator.{make_text}
+use Rattle.pp_language.specs.declared.which.Which.{Which}
 use Rattle.pp_language.proofs.OneFault.{grammar_has_no_fault, one_fault, one_program, one_limit, not_both}
 use Rattle.pp_language.proofs.StatementParts.{says_once}
-use Rattle.pp_propagation.specs.Runs.{IsRun}
-use Rattle.pp_propagation.specs.Replies.{status_of, answer_of, run_depth, run_turns, which_name, limit_text, syntax_text, IsBuilt, IsAnswered, IsUnbuilt, IsLimited, IsFaulty, IsReplyWithin, IsReplyToText, IsReply}
+use Rattle.pp_propagation.specs.Runs.{Run, IsRun}
+use Rattle.pp_propagation.specs.Replies.{status_of, answer_of, summary_of, IsBuilt, RunsAs, IsReplyWithin, faulty, limited, unbuilt, answered, IsReplyToText, too_long, within, IsSummary, IsReplyBy, IsReply, usage, served}
 use Rattle.pp_propagation.proofs.Exists.{run_once}
 
 abbrev Same : Status → Text → Status → Text → Type 0
 Same s b t c = (s ≡ t) × (b ≡ c)
 
-faulty_grammar : (text : Text) (w : Written) (s : Status) (b : Text) → Writes text w → IsFaulty text s b → ⊥
-faulty_grammar text w s b x f = grammar_has_no_fault says_once text x.statements f.sentence x.in_grammar f.fault
+-- ===== a text means one thing
 
-faulty_limit : (text : Text) (s t : Status) (b c : Text) → IsLimited text s b → IsFaulty text t c → ⊥
-faulty_limit text s t b c x f = grammar_has_no_fault says_once text x.passes.statements f.sentence x.passes.in_grammar f.fault
+no_fault : (text : Text) (w : Written) (k : ℕ) → Writes text w → IsSyntaxFault text k → ⊥
+no_fault text w k x f = grammar_has_no_fault says_once text x.statements k x.in_grammar f
 
-both_faulty : (text : Text) (s t : Status) (b c : Text) → IsFaulty text s b → IsFaulty text t c → Same s b t c
-both_faulty text s t b c f g = (f.ends ∙ sym g.ends, f.says ∙ ap (λ k. syntax_text k) (one_fault text f.sentence g.sentence f.fault g.fault) ∙ sym g.says)
+no_limit_fault : (text : Text) (which : Which) (k : ℕ) → Passes text which → IsSyntaxFault text k → ⊥
+no_limit_fault text which k x f = grammar_has_no_fault says_once text x.statements k x.in_grammar f
 
-both_limited : (text : Text) (s t : Status) (b c : Text) → IsLimited text s b → IsLimited text t c → Same s b t c
-both_limited text s t b c f g = (f.ends ∙ sym g.ends, f.says ∙ ap (λ w. limit_text (which_name w)) (one_limit says_once text f.which g.which f.passes g.passes) ∙ sym g.says)
+no_limit : (text : Text) (w : Written) (which : Which) → Writes text w → Passes text which → ⊥
+no_limit = not_both says_once
 
-both_unbuilt : (text : Text) (s t : Status) (b c : Text) → IsUnbuilt text s b → IsUnbuilt text t c → Same s b t c
-both_unbuilt text s t b c f g = (f.ends ∙ sym g.ends, f.says ∙ sym g.says)
+one_written : (text : Text) (w v : Written) → Writes text w → Writes text v → w ≡ v
+one_written = one_program says_once
 
-built_unbuilt : (text : Text) (s t : Status) (b c : Text) → IsAnswered text s b → IsUnbuilt text t c → ⊥
-built_unbuilt text s t b c f g = g.unbuilt (subst IsBuilt (one_program says_once text f.written g.written f.writes g.writes) f.built)
+both_run : (settings : Settings) (text : Text) (w v : Written) (r q : Run) → RunsAs settings text w r → RunsAs settings text v q → (w ≡ v) × (r ≡ q)
+both_run settings text w v r q h k =
+    let e = one_written text w v h.writes k.writes in
+    let is : IsRun (program_of w.clauses) w.query settings.depth settings.turns q = subst (λ (x : Written). IsRun (program_of x.clauses) x.query settings.depth settings.turns q) (sym e) k.is_run in
+    (e, run_once (program_of w.clauses) w.query settings.depth settings.turns r q h.is_run is)
 
-both_answered : (text : Text) (s t : Status) (b c : Text) → IsAnswered text s b → IsAnswered text t c → Same s b t c
-both_answered text s t b c f g =
-    let w = one_program says_once text f.written g.written f.writes g.writes in
-    let is : IsRun (program_of f.written.clauses) f.written.query run_depth run_turns g.run = subst (λ x. IsRun (program_of x.clauses) x.query run_depth run_turns g.run) (sym w) g.is_run in
-    let r : f.run ≡ g.run = run_once (program_of f.written.clauses) f.written.query run_depth run_turns f.run g.run f.is_run is in
-    (f.ends ∙ ap (λ x. status_of x.end) r ∙ sym g.ends, f.says ∙ ap (λ x. answer_of f.written x) r ∙ ap (λ x. answer_of x g.run) w ∙ sym g.says)
+-- ===== a reply to a text
 
-limited_writes : (text : Text) (w : Written) (s : Status) (b : Text) → Writes text w → IsLimited text s b → ⊥
-limited_writes text w s b x l = not_both says_once text w l.which x l.passes
+module _ (settings : Settings) (told text : Text) (s t : Status) (b c : Text) where
+  both_answered : (w v : Written) (r q : Run) → RunsAs settings text w r → RunsAs settings text v q → s ≡ status_of r.end → t ≡ status_of q.end → b ≡ told ++ answer_of w r → c ≡ told ++ answer_of v q → Same s b t c
+  both_answered w v r q h k e f x y =
+      let one = both_run settings text w v r q h k in
+      (e ∙ ap (λ (o : Run). status_of o.end) one.1 ∙ sym f, x ∙ ap (λ (o : Run). told ++ answer_of w o) one.1 ∙ ap (λ (z : Written). told ++ answer_of z q) one.0 ∙ sym y)
 
--- a reply to a text that writes a program
-written_reply : (text : Text) (w : Written) (s t : Status) (b c : Text) → Writes text w → (IsUnbuilt text s b ⊎ IsAnswered text s b) → IsReplyWithin text t c → Same s b t c
-written_reply text w s t b c x h (inl f) = absurd (faulty_grammar text w t c x f)
-written_reply text w s t b c x h (inr (inl l)) = absurd (limited_writes text w t c x l)
-written_reply text w s t b c x (inl u) (inr (inr (inl v))) = both_unbuilt text s t b c u v
-written_reply text w s t b c x (inl u) (inr (inr (inr a))) = absurd (built_unbuilt text t s c b a u)
-written_reply text w s t b c x (inr a) (inr (inr (inl v))) = absurd (built_unbuilt text s t b c a v)
-written_reply text w s t b c x (inr a) (inr (inr (inr d))) = both_answered text s t b c a d
+  within_once : IsReplyWithin settings told text s b → IsReplyWithin settings told text t c → Same s b t c
+  within_once (faulty j f e x) (faulty k g d y) = (e ∙ sym d, x ∙ ap (λ k. syntax_text k) (one_fault text j k f g) ∙ sym y)
+  within_once (faulty j f e x) (limited v g d y) = absurd (no_limit_fault text v j g f)
+  within_once (faulty j f e x) (unbuilt v g u d y) = absurd (no_fault text v j g f)
+  within_once (faulty j f e x) (answered v q g u d y) = absurd (no_fault text v j g.writes f)
+  within_once (limited w f e x) (faulty k g d y) = absurd (no_limit_fault text w k f g)
+  within_once (limited w f e x) (limited v g d y) = (e ∙ sym d, x ∙ ap (λ z. limit_text (which_name z)) (one_limit says_once text w v f g) ∙ sym y)
+  within_once (limited w f e x) (unbuilt v g u d y) = absurd (no_limit text v w g f)
+  within_once (limited w f e x) (answered v q g u d y) = absurd (no_limit text v w g.writes f)
+  within_once (unbuilt w f n e x) (faulty k g d y) = absurd (no_fault text w k f g)
+  within_once (unbuilt w f n e x) (limited v g d y) = absurd (no_limit text w v f g)
+  within_once (unbuilt w f n e x) (unbuilt v g u d y) = (e ∙ sym d, x ∙ sym y)
+  within_once (unbuilt w f n e x) (answered v q g u d y) = absurd (n (subst IsBuilt (one_written text v w g.writes f) u))
+  within_once (answered w r f n e x) (faulty k g d y) = absurd (no_fault text w k f.writes g)
+  within_once (answered w r f n e x) (limited v g d y) = absurd (no_limit text w v f.writes g)
+  within_once (answered w r f n e x) (unbuilt v g u d y) = absurd (u (subst IsBuilt (one_written text w v f.writes g) n))
+  within_once (answered w r f n e x) (answered v q g u d y) = both_answered w v r q f g e d x y
 
-within_once : (text : Text) (s t : Status) (b c : Text) → IsReplyWithin text s b → IsReplyWithin text t c → Same s b t c
-within_once text s t b c (inl f) (inl k) = both_faulty text s t b c f k
-within_once text s t b c (inl f) (inr (inl l)) = absurd (faulty_limit text t s c b l f)
-within_once text s t b c (inl f) (inr (inr (inl u))) = absurd (faulty_grammar text u.written s b u.writes f)
-within_once text s t b c (inl f) (inr (inr (inr a))) = absurd (faulty_grammar text a.written s b a.writes f)
-within_once text s t b c (inr (inl l)) (inl k) = absurd (faulty_limit text s t b c l k)
-within_once text s t b c (inr (inl l)) (inr (inl m)) = both_limited text s t b c l m
-within_once text s t b c (inr (inl l)) (inr (inr (inl u))) = absurd (limited_writes text u.written s b u.writes l)
-within_once text s t b c (inr (inl l)) (inr (inr (inr a))) = absurd (limited_writes text a.written s b a.writes l)
-within_once text s t b c (inr (inr (inl u))) g = written_reply text u.written s t b c u.writes (inl u) g
-within_once text s t b c (inr (inr (inr a))) g = written_reply text a.written s t b c a.writes (inr a) g
+  text_once : IsReplyToText settings told text s b → IsReplyToText settings told text t c → Same s b t c
+  text_once (too_long l e x) (too_long m d y) = (e ∙ sym d, x ∙ sym y)
+  text_once (too_long l e x) (within m y) = absurd (m l)
+  text_once (within l x) (too_long m d y) = absurd (l m)
+  text_once (within l x) (within m y) = within_once x y
 
-text_once : (text : Text) (s t : Status) (b c : Text) → IsReplyToText text s b → IsReplyToText text t c → Same s b t c
-text_once text s t b c (inl x) (inl y) = (x.1 ∙ sym y.1, x.2 ∙ sym y.2)
-text_once text s t b c (inl x) (inr y) = absurd (y.0 x.0)
-text_once text s t b c (inr x) (inl y) = absurd (x.0 y.0)
-text_once text s t b c (inr x) (inr y) = within_once text s t b c x.1 y.1
+-- ===== a reply of a call
 
-pub reply_once : (words : List Text) (text : Text) (s t : Status) (b c : Text) → IsReply words text s b → IsReply words text t c → (s ≡ t) × (b ≡ c)
-reply_once words text s t b c (inl x) (inl y) = (x.1.0 ∙ sym y.1.0, x.1.1 ∙ sym y.1.1)
-reply_once words text s t b c (inl x) (inr y) = absurd (x.0 y.0)
-reply_once words text s t b c (inr x) (inl y) = absurd (y.0 x.0)
-reply_once words text s t b c (inr x) (inr y) = text_once text s t b c x.1 y.1
+summary_once : (settings : Settings) (n : ℕ) (s t : Status) (b c : Text) → IsSummary settings n s b → IsSummary settings n t c → Same s b t c
+summary_once settings n s t b c h k =
+    let one = both_run settings (make_text n) h.written k.written h.run k.run h.runs k.runs in
+    (h.ends ∙ ap (λ (o : Run). status_of o.end) one.1 ∙ sym k.ends, h.says ∙ ap (λ (o : Run). summary_of o) one.1 ∙ sym k.says)
+
+command_once : (kind : CommandKind) (command : Command) (text told : Text) (s t : Status) (b c : Text) → IsReplyBy kind command text told s b → IsReplyBy kind command text told t c → Same s b t c
+command_once (Make n) command text told s t b c h k = summary_once command.settings n s t b c h k
+command_once Workers command text told s t b c h k = text_once command.settings (cond command.trace told []) text s t b c h k
+command_once Alone command text told s t b c h k = text_once command.settings (cond command.trace told []) text s t b c h k
+
+pub reply_once : (serves : List Text → Command → Type 0) → ((words : List Text) (c d : Command) → serves words c → serves words d → c ≡ d)
+    → (words : List Text) (text told : Text) (s t : Status) (b c : Text) → IsReply serves words text told s b → IsReply serves words text told t c → (s ≡ t) × (b ≡ c)
+reply_once serves one words text told s t b c (usage n e) (usage m d) = (e.0 ∙ sym d.0, e.1 ∙ sym d.1)
+reply_once serves one words text told s t b c (usage n e) (served y k g) = absurd (n y k)
+reply_once serves one words text told s t b c (served x h f) (usage m d) = absurd (m x h)
+reply_once serves one words text told s t b c (served x h f) (served y k g) =
+    command_once x.kind x text told s t b c f (subst (λ (z : Command). IsReplyBy z.kind z text told t c) (one words y x k h) g)

@@ -1,15 +1,25 @@
 -- The laws of runs, as statements.
-use Rattle.std.specs.Prelude.{◌≡◌, ℕ, ◌+◌, List, ◌++◌, length, Option}
+use Rattle.std.specs.Prelude.{◌≡◌, ℕ, ◌+◌, ◌⊎◌, List, [], ◌++◌, length, Option, Some, All}
 use Rattle.pp_algebra.specs.Terms.{count}
 use Rattle.pp_algebra.specs.Rows.{Row, IsRow}
 use Rattle.pp_sld.specs.Goals.{Goal, Program}
+use Rattle.pp_language.specs.declared.command.CommandKind.{CommandKind}
+use Rattle.pp_language.specs.declared.command.CommandKind.TheVariants.{Make}
+use Rattle.pp_language.specs.declared.command.Command.{Command}
+use Rattle.pp_language.specs.declared.which.Which.{Which}
 use Rattle.pp_language.specs.declared.status.Status.{Status}
+use Rattle.pp_language.specs.Commands.{AreWordsOfAlone}
 use Rattle.pp_language.specs.Texts.{Text}
-use Rattle.pp_language.specs.Programs.{Query}
+use Rattle.pp_language.specs.Faults.{IsSyntaxFault}
+use Rattle.pp_language.specs.Limits.{Writes, Passes}
+use Rattle.pp_language.specs.Generator.{make_text}
+use Rattle.pp_language.specs.Programs.{Query, Written}
 use Rattle.pp_propagation.specs.Stores.{Asked, face, face_variables, apply}
 use Rattle.pp_propagation.specs.Turns.{Commit, State, Turn}
 use Rattle.pp_propagation.specs.Runs.{Run, opening, Turns, IsRunOn, IsRunFrom, IsRun}
-use Rattle.pp_propagation.specs.Replies.{IsReply}
+use Rattle.pp_propagation.specs.Replies.{AreBuiltWords, IsUnserved, IsReply}
+use Rattle.pp_propagation.specs.Histories.{Change}
+use Rattle.pp_propagation.specs.Watchers.{Watcher, HasRoom, after}
 
 -- a goal's face is a row, with a column for each argument and a domain for each of the store's variables in it
 abbrev pub FacesAreRows : Type 0
@@ -44,6 +54,39 @@ abbrev pub RunsPassThrough : Type 0
 RunsPassThrough = (clauses : Program) (goals : List Asked) (depth n rest : ℕ) (store : Row) (t : State) (r : Run) → Turns clauses goals depth n (opening goals store) t → IsRunFrom clauses goals depth (n + rest) store r
     → IsRunOn clauses goals depth rest t r × ((later : List Commit) × (r.history ≡ t.history ++ later))
 
--- words and a text have at most one reply
-abbrev pub RepliesOnce : Type 0
-RepliesOnce = (words : List Text) (text : Text) (s t : Status) (b c : Text) → IsReply words text s b → IsReply words text t c → (s ≡ t) × (b ≡ c)
+-- words ask a call for at most one of the commands that it serves
+abbrev pub ServesOne : (List Text → Command → Type 0) → Type 0
+ServesOne serves = (words : List Text) (c d : Command) → serves words c → serves words d → c ≡ d
+
+-- so it is with the words of the call that is built, and these are words of `alone`
+abbrev pub BuiltWordsAreWords : Type 0
+BuiltWordsAreWords = ServesOne AreBuiltWords × ((words : List Text) (c : Command) → AreBuiltWords words c → AreWordsOfAlone words c)
+
+-- words, a text and what was told have at most one reply
+abbrev pub RepliesOnce : (List Text → Command → Type 0) → Type 0
+RepliesOnce serves = (words : List Text) (text told : Text) (s t : Status) (b c : Text) → IsReply serves words text told s b → IsReply serves words text told t c → (s ≡ t) × (b ≡ c)
+
+-- it is known which command the words ask for, if any
+abbrev pub IsAsked : (List Text → Command → Type 0) → List Text → Type 0
+IsAsked serves words = ((c : Command) × serves words c) ⊎ IsUnserved serves words
+
+-- the text has a fault, passes a limit, or writes something
+abbrev pub HasMeaning : Text → Type 0
+HasMeaning text = ((k : ℕ) × IsSyntaxFault text k) ⊎ (((which : Which) × Passes text which) ⊎ ((w : Written) × Writes text w))
+
+-- the text that a command runs has a meaning
+abbrev pub IsMeant : CommandKind → Text → Type 0
+IsMeant (Make n) text = (w : Written) × Writes (make_text n) w
+IsMeant kind text = HasMeaning text
+
+-- whatever is asked for, and whatever the text means that is run, there is a reply
+abbrev pub HasReply : (List Text → Command → Type 0) → Type 0
+HasReply serves = (words : List Text) (text told : Text) → IsAsked serves words → ((c : Command) → serves words c → IsMeant c.kind text) → (s : Status) × (b : Text) × IsReply serves words text told s b
+
+-- watchers that note some changes and then others note them all
+abbrev pub NotedInTurn : Type 0
+NotedInTurn = (ws : List Watcher) (first then : List Change) → after (after ws first) then ≡ after ws (first ++ then)
+
+-- where each watcher has room, no change leaves the list as it is
+abbrev pub NothingNoted : Type 0
+NothingNoted = (ws : List Watcher) → All HasRoom ws → after ws [] ≡ ws

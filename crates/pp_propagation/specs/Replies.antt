@@ -1,22 +1,29 @@
--- The reply: the status and the bytes that words and a text call for.
-use Rattle.std.specs.Prelude.{◌≡◌, ℕ, ◌<◌, ◌⊎◌, true, false, List, [], ◌∷◌, ◌++◌, length, codes}
-use Rattle.std.specs.Fmt.{decimal}
+-- The reply: the status and the bytes that words, a text and what the watchers told call for.
+use Rattle.std.specs.Prelude.{◌≡◌, ℕ, true, false, cond, List, [], ◌∷◌, ◌++◌, length, codes}
 use Rattle.pp_algebra.specs.Terms.{Trees}
 use Rattle.pp_algebra.specs.Rows.{Row}
 use Rattle.pp_sld.specs.Goals.{Predicate, user, Clause, program_of}
 use Rattle.pp_sld.specs.Verdicts.{most}
+use Rattle.pp_language.specs.declared.command.CommandKind.{CommandKind}
+use Rattle.pp_language.specs.declared.command.CommandKind.TheVariants.{Alone, Make}
+use Rattle.pp_language.specs.declared.command.Settings.{Settings}
+use Rattle.pp_language.specs.declared.command.Command.{Command}
 use Rattle.pp_language.specs.declared.status.Status.{Status}
 use Rattle.pp_language.specs.declared.status.Status.TheVariants.{Yes, No, Usage, Syntax, Stopped, Limit, Unbuilt}
 use Rattle.pp_language.specs.declared.which.Which.{Which}
-use Rattle.pp_language.specs.declared.which.Which.TheVariants.{Clauses, Arity, Variables, Goals}
 use Rattle.pp_language.specs.Texts.{Text}
 use Rattle.pp_language.specs.Programs.{infers, Written}
 use Rattle.pp_language.specs.Faults.{IsSyntaxFault}
-use Rattle.pp_language.specs.Limits.{Writes, Passes}
-use Rattle.pp_language.specs.Answers.{line, store_text, no_text, usage_text, unbuilt_text}
+use Rattle.pp_language.specs.Limits.{IsTooLong, Writes, Passes}
+use Rattle.pp_language.specs.Commands.{settings_by}
+use Rattle.pp_language.specs.Generator.{make_text}
+use Rattle.pp_language.specs.Answers.{store_text, no_text, usage_text, syntax_text, which_name, limit_text, length_text, unbuilt_text}
+use Rattle.pp_language.specs.Told.{summary_text, failed_summary_text}
 use Rattle.pp_propagation.specs.Stores.{goals_of}
 use Rattle.pp_propagation.specs.Histories.{unfinished_goals}
 use Rattle.pp_propagation.specs.Runs.{End, yes, no, stopped, Run, IsRun}
+
+-- ===== a run as a text
 
 abbrev pub status_of : End → Status
 status_of yes = Yes
@@ -33,32 +40,16 @@ answer_text names named store unfinished stopped = store_text names named store 
 abbrev pub answer_of : Written → Run → Text
 answer_of w r = answer_text w.names w.query.named r.store (unfinished_goals (length (goals_of w.query.items)) r.history) r.end
 
--- every run has this depth and these turns
-abbrev pub run_depth : ℕ
-run_depth = 1000
+abbrev pub summary_by : ℕ → Row → End → Text
+summary_by turns store no = failed_summary_text turns
+summary_by turns store yes = summary_text turns store false
+summary_by turns store stopped = summary_text turns store true
 
-abbrev pub run_turns : ℕ
-run_turns = 10000
+-- the summary of a run of a generated text
+abbrev pub summary_of : Run → Text
+summary_of r = summary_by (length r.history) r.store r.end
 
--- the most bytes of a text
-abbrev pub text_limit : ℕ
-text_limit = 4194304
-
--- the text is longer than 4,194,304 bytes
-abbrev pub IsTooLong : Text → Type 0
-IsTooLong text = text_limit < length text
-
-abbrev pub which_name : Which → Text
-which_name Clauses = codes "clauses"
-which_name Arity = codes "arity"
-which_name Variables = codes "variables"
-which_name Goals = codes "goals"
-
-abbrev pub limit_text : Text → Text
-limit_text name = line (codes "limit: " ++ name)
-
-abbrev pub syntax_text : ℕ → Text
-syntax_text k = line (codes "syntax in sentence " ++ decimal k)
+-- ===== what is built so far
 
 abbrev pub IsFactual : List (Predicate × Clause) → Type 0
 IsFactual [] = Unit {0}
@@ -71,54 +62,58 @@ pub record IsBuilt (w : Written) : Type 0 where
   pub arguments : Trees ℕ
   pub query : w.query.items ≡ infers (record { shape = user predicate; arguments = arguments }) most ∷ []
 
--- a run of what the text writes
-pub record IsAnswered (text : Text) (status : Status) (bytes : Text) : Type 0 where
-  pub written : Written
-  pub writes : Writes text written
-  pub built : IsBuilt written
-  pub run : Run
-  pub is_run : IsRun (program_of written.clauses) written.query run_depth run_turns run
-  pub ends : status ≡ status_of run.end
-  pub says : bytes ≡ answer_of written run
-
--- what the text writes is not built yet
-pub record IsUnbuilt (text : Text) (status : Status) (bytes : Text) : Type 0 where
-  pub written : Written
-  pub writes : Writes text written
-  pub unbuilt : IsBuilt written → ⊥
-  pub ends : status ≡ Unbuilt
-  pub says : bytes ≡ unbuilt_text
-
--- the text passes a limit
-pub record IsLimited (text : Text) (status : Status) (bytes : Text) : Type 0 where
-  pub which : Which
-  pub passes : Passes text which
-  pub ends : status ≡ Limit
-  pub says : bytes ≡ limit_text (which_name which)
-
--- the text has a fault
-pub record IsFaulty (text : Text) (status : Status) (bytes : Text) : Type 0 where
-  pub sentence : ℕ
-  pub fault : IsSyntaxFault text sentence
-  pub ends : status ≡ Syntax
-  pub says : bytes ≡ syntax_text sentence
+-- the command `alone` without options
+abbrev pub plain : Command
+plain = record { kind = Alone; settings = settings_by []; trace = false }
 
 -- the words are the one word `alone`
 abbrev pub AreWords : List Text → Type 0
 AreWords words = words ≡ codes "alone" ∷ []
 
-abbrev pub IsReplyWithin : Text → Status → Text → Type 0
-IsReplyWithin text s b = IsFaulty text s b ⊎ (IsLimited text s b ⊎ (IsUnbuilt text s b ⊎ IsAnswered text s b))
+abbrev pub AreBuiltWords : List Text → Command → Type 0
+AreBuiltWords words command = AreWords words × (command ≡ plain)
+
+-- ===== the reply
+
+-- what the text writes has this run, under these settings
+pub record RunsAs (settings : Settings) (text : Text) (w : Written) (r : Run) : Type 0 where
+  pub writes : Writes text w
+  pub is_run : IsRun (program_of w.clauses) w.query settings.depth settings.turns r
+
+-- what a text calls for that is not too long; `told` stands before the answer of its run
+pub data IsReplyWithin (settings : Settings) (told text : Text) (s : Status) (b : Text) : Type 0 where
+  faulty : (k : ℕ) → IsSyntaxFault text k → s ≡ Syntax → b ≡ syntax_text k → IsReplyWithin settings told text s b
+  limited : (which : Which) → Passes text which → s ≡ Limit → b ≡ limit_text (which_name which) → IsReplyWithin settings told text s b
+  unbuilt : (w : Written) → Writes text w → (IsBuilt w → ⊥) → s ≡ Unbuilt → b ≡ unbuilt_text → IsReplyWithin settings told text s b
+  answered : (w : Written) (r : Run) → RunsAs settings text w r → IsBuilt w → s ≡ status_of r.end → b ≡ told ++ answer_of w r → IsReplyWithin settings told text s b
 
 -- the length is counted before anything is read
-abbrev pub IsReplyToText : Text → Status → Text → Type 0
-IsReplyToText text s b =
-    (IsTooLong text × (s ≡ Limit) × (b ≡ limit_text (codes "text")))
-    ⊎ ((IsTooLong text → ⊥) × IsReplyWithin text s b)
+pub data IsReplyToText (settings : Settings) (told text : Text) (s : Status) (b : Text) : Type 0 where
+  too_long : IsTooLong text → s ≡ Limit → b ≡ length_text → IsReplyToText settings told text s b
+  within : (IsTooLong text → ⊥) → IsReplyWithin settings told text s b → IsReplyToText settings told text s b
 
--- words that aren't valid call for the usage line, whatever the text is
+-- the generated text of this number is run, and its summary written
+pub record IsSummary (settings : Settings) (number : ℕ) (s : Status) (b : Text) : Type 0 where
+  pub written : Written
+  pub run : Run
+  pub runs : RunsAs settings (make_text number) written run
+  pub ends : s ≡ status_of run.end
+  pub says : b ≡ summary_of run
+
+-- `make` reads no text; what was told is written where the words ask for it
+abbrev pub IsReplyBy : CommandKind → Command → Text → Text → Status → Text → Type 0
+IsReplyBy (Make n) command text told s b = IsSummary command.settings n s b
+IsReplyBy kind command text told s b = IsReplyToText command.settings (cond command.trace told []) text s b
+
+-- no command that the call serves is asked for
+abbrev pub IsUnserved : (List Text → Command → Type 0) → List Text → Type 0
+IsUnserved serves words = (command : Command) → serves words command → ⊥
+
+-- words that aren't valid call for the usage line
 abbrev pub IsUsage : Status → Text → Type 0
-IsUsage status bytes = (status ≡ Usage) × (bytes ≡ usage_text)
+IsUsage s b = (s ≡ Usage) × (b ≡ usage_text)
 
-abbrev pub IsReply : List Text → Text → Status → Text → Type 0
-IsReply words text s b = ((AreWords words → ⊥) × IsUsage s b) ⊎ (AreWords words × IsReplyToText text s b)
+-- the reply of a call that serves these commands; `told` is what the watchers tell after the run
+pub data IsReply (serves : List Text → Command → Type 0) (words : List Text) (text told : Text) (s : Status) (b : Text) : Type 0 where
+  usage : IsUnserved serves words → IsUsage s b → IsReply serves words text told s b
+  served : (command : Command) → serves words command → IsReplyBy command.kind command text told s b → IsReply serves words text told s b

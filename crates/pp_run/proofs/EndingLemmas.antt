@@ -1,14 +1,14 @@
 -- From what was written to how the call ended.
 use Rattle.std.proofs.Common.{◌≡◌, ◌<◌, ◌≤◌, List, [], length, refl, subst, sym, inl, inr, Option, Some, None, IfSome}
-use Rattle.std.specs.Prelude.{codes}
 use Rattle.pp_language.specs.declared.status.Status.{Status}
 use Rattle.pp_language.specs.declared.status.Status.TheVariants.{Yes, No, Usage, Syntax, Stopped, Limit, ReadFault, WriteFault, Memory, Unbuilt}
 use Rattle.pp_language.specs.Texts.{Text}
-use Rattle.pp_language.specs.Answers.{usage_text}
+use Rattle.pp_language.specs.declared.limits.TheConstants.{TEXT_LIMIT}
+use Rattle.pp_language.specs.Answers.{usage_text, length_text}
 use Rattle.pp_propagation.specs.Runs.{End, yes, no, stopped}
-use Rattle.pp_propagation.specs.Replies.{status_of, limit_text, AreWords, IsReplyToText, IsReply}
+use Rattle.pp_propagation.specs.Replies.{status_of, plain, AreWords, AreBuiltWords, IsReplyToText, IsReply, usage, served}
 use Rattle.pp_io.specs.Ends.{Took, GaveAll}
-use Rattle.pp_run.proofs.Replying.{too_long, of_reply}
+use Rattle.pp_run.proofs.Replying.{long_reply, of_reply}
 use Rattle.pp_run.specs.Endings.{Replied, Wrote}
 
 pub each_told : {A : Type 0} (P : A → Type 0) (o : Option A) → ((x : A) → P x) → IfSome o P
@@ -45,7 +45,7 @@ replied reply s b before after result i r (inl w) = subst (Replied reply before 
 replied reply s b before after result i r (inr w) = subst (Replied reply before after) (sym w.0) (s, b, r, w.1, w.2, w.3, w.4)
 
 -- the statuses of a reply to a text
-is_answer : (text : Text) (s : Status) (b : Text) → IsReplyToText text s b → IsAnswer s
+is_answer : (text : Text) (s : Status) (b : Text) → IsReplyToText plain.settings [] text s b → IsAnswer s
 is_answer text s b r = of_reply IsAnswer text s b r tt tt tt of_end
   where
     of_end : (e : End) → IsAnswer (status_of e)
@@ -55,26 +55,26 @@ is_answer text s b r = of_reply IsAnswer text s b r tt tt tt of_end
 
 module _ (words : List Text) (before after : Option Text) (result : Status) where
   abbrev ToText : Text → Type 0
-  ToText text = Replied (IsReply words text) before after result
+  ToText text = Replied (IsReply AreBuiltWords words text []) before after result
 
   pub after_bad_words : (left : Option Text) → (AreWords words → ⊥) → Wrote Usage usage_text before after result → IfSome left ToText
-  after_bad_words left bad w = each_told ToText left (λ text. replied (IsReply words text) Usage usage_text before after result tt (inl (bad, (refl, refl))) w)
+  after_bad_words left bad w = each_told ToText left (λ text. replied (IsReply AreBuiltWords words text []) Usage usage_text before after result tt (usage (λ c h. bad h.0) (refl, refl)) w)
 
-  reply_written : (text : Text) (s : Status) (b : Text) → AreWords words → IsReplyToText text s b → Wrote s b before after result → ToText text
-  reply_written text s b good r w = replied (IsReply words text) s b before after result (is_answer text s b r) (inr (good, r)) w
+  reply_written : (text : Text) (s : Status) (b : Text) → AreWords words → IsReplyToText plain.settings [] text s b → Wrote s b before after result → ToText text
+  reply_written text s b good r w = replied (IsReply AreBuiltWords words text []) s b before after result (is_answer text s b r) (served plain (good, refl) r) w
 
-  pub after_long_text : (left : Option Text) → AreWords words → IfSome left (λ text. 4194304 < length text) → Wrote Limit (limit_text (codes "text")) before after result → IfSome left ToText
+  pub after_long_text : (left : Option Text) → AreWords words → IfSome left (λ text. TEXT_LIMIT < length text) → Wrote Limit length_text before after result → IfSome left ToText
   after_long_text None good long w = tt
-  after_long_text (Some text) good long w = reply_written text Limit (limit_text (codes "text")) good (too_long text Limit (limit_text (codes "text")) long refl refl) w
+  after_long_text (Some text) good long w = reply_written text Limit length_text good (long_reply text Limit length_text long refl refl) w
 
-  pub after_text : (left rest : Option Text) (text : Text) (s : Status) (b : Text) → AreWords words → GaveAll left rest text → IsReplyToText text s b → Wrote s b before after result → IfSome left ToText
+  pub after_text : (left rest : Option Text) (text : Text) (s : Status) (b : Text) → AreWords words → GaveAll left rest text → IsReplyToText plain.settings [] text s b → Wrote s b before after result → IfSome left ToText
   after_text None rest text s b good all r w = tt
   after_text (Some told) rest text s b good all r w = subst ToText all.0 (reply_written text s b good r w)
 
-pub same_reply : (t u : Text) (s : Status) (a b : Text) → t ≡ u → a ≡ b → IsReplyToText t s b → IsReplyToText u s a
-same_reply t u s a b e f r = subst (λ (x : Text). IsReplyToText x s a) e (subst (IsReplyToText t s) (sym f) r)
+pub same_reply : (t u : Text) (s : Status) (a b : Text) → t ≡ u → a ≡ b → IsReplyToText plain.settings [] t s b → IsReplyToText plain.settings [] u s a
+same_reply t u s a b e f r = subst (λ (x : Text). IsReplyToText plain.settings [] x s a) e (subst (IsReplyToText plain.settings [] t s) (sym f) r)
 
 -- a text that was read whole
-pub drained : (left rest : Option Text) (text : Text) → GaveAll left rest text → IfSome left (λ told. length told ≤ 4194304 → rest ≡ Some [])
+pub drained : (left rest : Option Text) (text : Text) → GaveAll left rest text → IfSome left (λ told. length told ≤ TEXT_LIMIT → rest ≡ Some [])
 drained None rest text all = tt
 drained (Some told) rest text all = λ small. all.1

@@ -1,6 +1,5 @@
 -- From what a text writes, and what is answered for it, to the reply to the text.
 use Rattle.std.proofs.Common.{◌≡◌, ◌<◌, ◌≤◌, ℕ, List, [], All, length, map, Result, Ok, Err, IfOk, ap, sym, ◌∙◌, subst, inl, inr, arith}
-use Rattle.std.specs.Prelude.{Bool, true, false, codes}
 use Rattle.pp_algebra.specs.Terms.{Tree}
 use Rattle.pp_algebra.specs.Rows.{Row}
 use Rattle.pp_sld.specs.Goals.{program_of}
@@ -11,12 +10,13 @@ use Rattle.pp_language.specs.Texts.{Text}
 use Rattle.pp_language.specs.Printing.{name_at}
 use Rattle.pp_language.specs.Programs.{Written}
 use Rattle.pp_language.specs.Faults.{IsSyntaxFault}
+use Rattle.pp_language.specs.declared.limits.TheConstants.{TEXT_LIMIT, DEFAULT_DEPTH, DEFAULT_TURNS}
 use Rattle.pp_language.specs.Limits.{Writes, Passes}
-use Rattle.pp_language.specs.Answers.{unbuilt_text}
+use Rattle.pp_language.specs.Answers.{syntax_text, which_name, limit_text, length_text, unbuilt_text}
 use Rattle.pp_propagation.specs.Stores.{goals_of}
 use Rattle.pp_propagation.specs.Histories.{unfinished_goals}
 use Rattle.pp_propagation.specs.Runs.{End as Finished, yes, no, stopped}
-use Rattle.pp_propagation.specs.Replies.{status_of, answer_text, answer_of, run_depth, run_turns, which_name, limit_text, syntax_text, IsTooLong, IsBuilt, IsReplyWithin, IsReplyToText}
+use Rattle.pp_propagation.specs.Replies.{status_of, answer_text, plain, IsBuilt, RunsAs, IsReplyWithin, faulty, limited, unbuilt, answered, IsReplyToText, too_long, within}
 use Rattle.pp_term.specs.declared.clause.Clause.{Clause}
 use Rattle.pp_term.specs.declared.pred.Pred.{Pred}
 use Rattle.pp_term.specs.declared.query.Item.{Item}
@@ -42,73 +42,70 @@ both_ok P Q R (Err e) f h k = tt
 -- ===== a text that is refused
 
 module _ (text : Text) (s : Status) (b : Text) where
-  pub too_long : IsTooLong text → s ≡ status.Limit → b ≡ limit_text (codes "text") → IsReplyToText text s b
-  too_long h t u = inl (h, t, u)
+  pub long_reply : TEXT_LIMIT < length text → s ≡ status.Limit → b ≡ length_text → IsReplyToText plain.settings [] text s b
+  long_reply h t u = too_long h t u
 
-  pub within : length text ≤ 4194304 → IsReplyWithin text s b → IsReplyToText text s b
-  within small r = inr ((λ h. let long : 4194304 < length text = h in absurd (omega (arith, small, long))), r)
+  pub short_reply : length text ≤ TEXT_LIMIT → IsReplyWithin plain.settings [] text s b → IsReplyToText plain.settings [] text s b
+  short_reply small r = within (λ h. let long : TEXT_LIMIT < length text = h in absurd (omega (arith, small, long))) r
 
-  pub faulty : (k : ℕ) → IsSyntaxFault text k → s ≡ status.Syntax → b ≡ syntax_text k → IsReplyWithin text s b
-  faulty k h t u = inl (record { sentence = k; fault = h; ends = t; says = u })
+  pub faulty_reply : (k : ℕ) → IsSyntaxFault text k → s ≡ status.Syntax → b ≡ syntax_text k → IsReplyWithin plain.settings [] text s b
+  faulty_reply k h t u = faulty k h t u
 
-  pub limited : (w : Which) → Passes text w → s ≡ status.Limit → b ≡ limit_text (which_name w) → IsReplyWithin text s b
-  limited w h t u = inr (inl (record { which = w; passes = h; ends = t; says = u }))
+  pub limited_reply : (w : Which) → Passes text w → s ≡ status.Limit → b ≡ limit_text (which_name w) → IsReplyWithin plain.settings [] text s b
+  limited_reply w h t u = limited w h t u
 
-  pub unbuilt : (w : Written) → (IsBuilt w → ⊥) → (s ≡ status.Unbuilt) × (b ≡ unbuilt_text) → Writes text w → IsReplyWithin text s b
-  unbuilt w none t h = inr (inr (inl (record { written = w; writes = h; unbuilt = none; ends = t.0; says = t.1 })))
+  pub unbuilt_reply : (w : Written) → (IsBuilt w → ⊥) → (s ≡ status.Unbuilt) × (b ≡ unbuilt_text) → Writes text w → IsReplyWithin plain.settings [] text s b
+  unbuilt_reply w none t h = unbuilt w h none t.0 t.1
 
 -- ===== a text that is run
 
 module _ (text : Text) (w : Written) (store : Row) (made : ℕ) (s : Status) (b : Text) where
   -- of a run that ended so
   abbrev Ends : End → Type 0
-  Ends e = Ran (program_of w.clauses) w.query run_depth run_turns (end_by e) store made
+  Ends e = Ran (program_of w.clauses) w.query DEFAULT_DEPTH DEFAULT_TURNS (end_by e) store made
 
-  pub replied_by : (e : End) → Writes text w → IsBuilt w → Ends e → s ≡ status_of (end_by e) → b ≡ answer_text w.names w.query.named store [] (end_by e) → IsReplyWithin text s b
-  replied_by e writes is h t u = inr (inr (inr (record {
-    written = w;
-    writes = writes;
-    built = is;
-    run = h.run;
-    is_run = h.is_run;
-    ends = t ∙ ap status_of (sym h.ends);
-    says =
-        u
-        ∙ ap (λ x. answer_text w.names w.query.named x [] (end_by e)) (sym h.has_store)
-        ∙ ap (λ ks. answer_text w.names w.query.named h.run.store ks (end_by e)) (sym h.unfinished)
-        ∙ ap (answer_text w.names w.query.named h.run.store (unfinished_goals (length (goals_of w.query.items)) h.run.history)) (sym h.ends);
-  })))
+  pub replied_by : (e : End) → Writes text w → IsBuilt w → Ends e → s ≡ status_of (end_by e) → b ≡ answer_text w.names w.query.named store [] (end_by e) → IsReplyWithin plain.settings [] text s b
+  replied_by e writes is h t u =
+      answered w h.run (record { writes = writes; is_run = h.is_run }) is (t ∙ ap status_of (sym h.ends)) (
+      u
+      ∙ ap (λ x. answer_text w.names w.query.named x [] (end_by e)) (sym h.has_store)
+      ∙ ap (λ ks. answer_text w.names w.query.named h.run.store ks (end_by e)) (sym h.unfinished)
+      ∙ ap (answer_text w.names w.query.named h.run.store (unfinished_goals (length (goals_of w.query.items)) h.run.history)) (sym h.ends)
+      )
 
 -- ===== in the words that the code has for a program
 
 module _ (p : Program) (clauses : List Clause) (items : List Item) (same_clauses : clauses ≡ p.clauses) (same_items : items ≡ p.query.items) (s : Status) (b : Text) where
-  pub no_goal_reply : HasNoOnlyGoal items → (s ≡ status.Unbuilt) × (b ≡ unbuilt_text) → (text : Text) → Writes text (written_of p) → IsReplyWithin text s b
-  no_goal_reply none t text = unbuilt text s b (written_of p) (no_goal p (subst HasNoOnlyGoal same_items none)) t
+  pub no_goal_reply : HasNoOnlyGoal items → (s ≡ status.Unbuilt) × (b ≡ unbuilt_text) → (text : Text) → Writes text (written_of p) → IsReplyWithin plain.settings [] text s b
+  no_goal_reply none t text = unbuilt_reply text s b (written_of p) (no_goal p (subst HasNoOnlyGoal same_items none)) t
 
-  pub no_facts_reply : (All HasNoBody clauses → ⊥) → (s ≡ status.Unbuilt) × (b ≡ unbuilt_text) → (text : Text) → Writes text (written_of p) → IsReplyWithin text s b
-  no_facts_reply none t text = unbuilt text s b (written_of p) (no_facts p (subst (λ cs. All HasNoBody cs → ⊥) same_clauses none)) t
+  pub no_facts_reply : (All HasNoBody clauses → ⊥) → (s ≡ status.Unbuilt) × (b ≡ unbuilt_text) → (text : Text) → Writes text (written_of p) → IsReplyWithin plain.settings [] text s b
+  no_facts_reply none t text = unbuilt_reply text s b (written_of p) (no_facts p (subst (λ cs. All HasNoBody cs → ⊥) same_clauses none)) t
 
   -- the run of a query of one goal over facts, and its answer
-  pub run_reply : (q : Pred) (ts : List (Tree ℕ)) (e : End) (store : Row) (made : ℕ) → IsOnlyGoal items q ts → All HasNoBody clauses → ((named : List Text) → Ran (program clauses) (query_by p.query.vars named (predicate_of q) ts) run_depth run_turns (end_by e) store made) → s ≡ status_of (end_by e) → b ≡ answer_text p.names (map (name_at p.names) p.query.named) store [] (end_by e) → (text : Text) → Writes text (written_of p) → IsReplyWithin text s b
+  pub run_reply : (q : Pred) (ts : List (Tree ℕ)) (e : End) (store : Row) (made : ℕ) → IsOnlyGoal items q ts → All HasNoBody clauses → ((named : List Text) → Ran (program clauses) (query_by p.query.vars named (predicate_of q) ts) DEFAULT_DEPTH DEFAULT_TURNS (end_by e) store made) → s ≡ status_of (end_by e) → b ≡ answer_text p.names (map (name_at p.names) p.query.named) store [] (end_by e) → (text : Text) → Writes text (written_of p) → IsReplyWithin plain.settings [] text s b
   run_reply q ts e store made asks facts ran t u text writes =
       let named = map (name_at p.names) p.query.named in
       let only : IsOnlyGoal p.query.items q ts = sym same_items ∙ asks in
-      let one : Ran (program p.clauses) (query_by p.query.vars named (predicate_of q) ts) run_depth run_turns (end_by e) store made = subst (λ cs. Ran (program cs) (query_by p.query.vars named (predicate_of q) ts) run_depth run_turns (end_by e) store made) same_clauses (ran named) in
-      let two : Ran (program p.clauses) (written_of p).query run_depth run_turns (end_by e) store made = subst (λ is. Ran (program p.clauses) (record { variables = p.query.vars; named = named; items = map item_of is }) run_depth run_turns (end_by e) store made) (sym only) one in
+      let one : Ran (program p.clauses) (query_by p.query.vars named (predicate_of q) ts) DEFAULT_DEPTH DEFAULT_TURNS (end_by e) store made = subst (λ cs. Ran (program cs) (query_by p.query.vars named (predicate_of q) ts) DEFAULT_DEPTH DEFAULT_TURNS (end_by e) store made) same_clauses (ran named) in
+      let two : Ran (program p.clauses) (written_of p).query DEFAULT_DEPTH DEFAULT_TURNS (end_by e) store made = subst (λ is. Ran (program p.clauses) (record { variables = p.query.vars; named = named; items = map item_of is }) DEFAULT_DEPTH DEFAULT_TURNS (end_by e) store made) (sym only) one in
       replied_by text (written_of p) store made s b e writes (built p q ts only (subst (All HasNoBody) same_clauses facts)) two t u
 
 -- ===== the statuses of replies
 
 module _ (P : Status → Type 0) (text : Text) (s : Status) (b : Text) where
-  pub of_reply : IsReplyToText text s b → P status.Syntax → P status.Limit → P status.Unbuilt → ((e : Finished) → P (status_of e)) → P s
-  of_reply (inl l) on_syntax on_limit on_unbuilt on_end = subst P (sym l.1) on_limit
-  of_reply (inr (_, inl f)) on_syntax on_limit on_unbuilt on_end = subst P (sym f.ends) on_syntax
-  of_reply (inr (_, inr (inl l))) on_syntax on_limit on_unbuilt on_end = subst P (sym l.ends) on_limit
-  of_reply (inr (_, inr (inr (inl u)))) on_syntax on_limit on_unbuilt on_end = subst P (sym u.ends) on_unbuilt
-  of_reply (inr (_, inr (inr (inr a)))) on_syntax on_limit on_unbuilt on_end = subst P (sym a.ends) (on_end a.run.end)
+  of_within : IsReplyWithin plain.settings [] text s b → P status.Syntax → P status.Limit → P status.Unbuilt → ((e : Finished) → P (status_of e)) → P s
+  of_within (faulty k f e x) on_syntax on_limit on_unbuilt on_end = subst P (sym e) on_syntax
+  of_within (limited w p e x) on_syntax on_limit on_unbuilt on_end = subst P (sym e) on_limit
+  of_within (unbuilt w h n e x) on_syntax on_limit on_unbuilt on_end = subst P (sym e) on_unbuilt
+  of_within (answered w r h n e x) on_syntax on_limit on_unbuilt on_end = subst P (sym e) (on_end r.end)
+
+  pub of_reply : IsReplyToText plain.settings [] text s b → P status.Syntax → P status.Limit → P status.Unbuilt → ((e : Finished) → P (status_of e)) → P s
+  of_reply (too_long l e x) on_syntax on_limit on_unbuilt on_end = subst P (sym e) on_limit
+  of_reply (within l x) on_syntax on_limit on_unbuilt on_end = of_within x on_syntax on_limit on_unbuilt on_end
 
 -- a reply to a text is neither the usage line nor a fault
-pub ordinary : (text : Text) (s : Status) (b : Text) → IsReplyToText text s b → IsOrdinary s
+pub ordinary : (text : Text) (s : Status) (b : Text) → IsReplyToText plain.settings [] text s b → IsOrdinary s
 ordinary text s b r = of_reply IsOrdinary text s b r
     (record { words = λ e. absurd (cc e); reading = λ e. absurd (cc e); writing = λ e. absurd (cc e); memory = λ e. absurd (cc e) })
     (record { words = λ e. absurd (cc e); reading = λ e. absurd (cc e); writing = λ e. absurd (cc e); memory = λ e. absurd (cc e) })

@@ -1,5 +1,7 @@
 -- How a call of the program ends: what it wrote for a reply, and what it left in its source.
 use Rattle.std.specs.Prelude.{◌≡◌, ◌≢◌, ◌⊎◌, ◌++◌, Option}
+use Rattle.pp_language.specs.declared.command.CommandKind.{CommandKind}
+use Rattle.pp_language.specs.declared.command.CommandKind.TheVariants.{Make}
 use Rattle.pp_language.specs.declared.status.Status.{Status}
 use Rattle.pp_language.specs.declared.status.Status.TheVariants.{Yes, No, Usage, Syntax, Stopped, Limit, ReadFault, WriteFault, Memory, Unbuilt}
 use Rattle.pp_language.specs.Texts.{Text}
@@ -20,17 +22,22 @@ Replied reply before after Limit = (b : Text) × reply Limit b × Took before af
 Replied reply before after Unbuilt = (b : Text) × reply Unbuilt b × Took before after b
 
 -- a run was made, or the text was refused for what it is
-abbrev pub HasRead : Status → Type 0
-HasRead Yes = Unit {0}
-HasRead No = Unit {0}
-HasRead Stopped = Unit {0}
-HasRead Syntax = Unit {0}
-HasRead Limit = Unit {0}
-HasRead Unbuilt = Unit {0}
-HasRead Usage = ⊥
-HasRead ReadFault = ⊥
-HasRead WriteFault = ⊥
-HasRead Memory = ⊥
+abbrev pub HasReadText : Status → Type 0
+HasReadText Yes = Unit {0}
+HasReadText No = Unit {0}
+HasReadText Stopped = Unit {0}
+HasReadText Syntax = Unit {0}
+HasReadText Limit = Unit {0}
+HasReadText Unbuilt = Unit {0}
+HasReadText Usage = ⊥
+HasReadText ReadFault = ⊥
+HasReadText WriteFault = ⊥
+HasReadText Memory = ⊥
+
+-- a command that ended so has read a text: `make` reads none
+abbrev pub HasRead : CommandKind → Status → Type 0
+HasRead (Make n) s = ⊥
+HasRead kind s = HasReadText s
 
 -- bytes were written whole with this status, or a write failed behind a prefix of them
 abbrev pub Wrote : Status → Text → Option Text → Option Text → Status → Type 0

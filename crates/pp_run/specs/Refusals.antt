@@ -4,8 +4,8 @@ use Rattle.pp_language.specs.declared.which.Which.{Which}
 use Rattle.pp_language.specs.Texts.{Text}
 use Rattle.pp_language.specs.Programs.{Written}
 use Rattle.pp_language.specs.Faults.{IsSyntaxFault}
-use Rattle.pp_language.specs.Limits.{Writes, Passes}
-use Rattle.pp_propagation.specs.Replies.{IsTooLong, IsBuilt}
+use Rattle.pp_language.specs.Limits.{IsTooLong, Writes, Passes}
+use Rattle.pp_propagation.specs.Replies.{IsBuilt}
 
 -- some sentence is the first fault
 abbrev pub HasSyntaxFault : Text → Type 0

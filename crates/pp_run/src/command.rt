@@ -1,6 +1,6 @@
 // The command `alone`: one thread, and it returns.
 ghost use Rattle.std.specs.Prelude.{◌≡◌, ◌≢◌, ◌⊎◌, ℕ, ◌≤◌, map, length, Some, IfSome, string_bytes, []};
-ghost use Rattle.pp_propagation.specs.Replies.{AreWords, IsReply, IsUsage};
+ghost use Rattle.pp_propagation.specs.Replies.{plain, AreWords, AreBuiltWords, IsReply, IsUsage};
 ghost use Rattle.pp_io.specs.Ends.{Rose};
 ghost use Rattle.pp_run.specs.Endings.{Wrote, Replied, HasRead, IsWordsEnd, TookNothing};
 ghost use Rattle.pp_run.specs.Refusals.{HasSyntaxFault, PassesLimit, WritesUnbuilt};
@@ -9,11 +9,8 @@ use crate::lines::{TOO_LONG, USAGE};
 use crate::reply::reply_to;
 use crate::words::are_valid;
 use pp_io::{ReadError, Sink, Source, read_all, write_all};
-use pp_language::Status;
+use pp_language::{Status, TEXT_LIMIT};
 use std::alloc::Global;
-
-/// The greatest length of a text, in bytes.
-pub const TEXT_LIMIT: usize = 4_194_304;
 
 /// Writes the bytes of a reply, and answers its status, or the write fault.
 fn written<K: Sink>(sink: &mut K, status: Status, bytes: &[u8]) -> Status
@@ -38,7 +35,7 @@ pub fn alone<S: Source, K: Sink>(
 ) -> Status
     // What was written is the reply to the words and to the text that was left, as the ending says.
     ensures replied { IfSome (S.left source.old) (λ text.
-        Replied (IsReply (map string_bytes words.now) text) (K.taken sink.old) (K.taken sink.new) result) }
+        Replied (IsReply AreBuiltWords (map string_bytes words.now) text []) (K.taken sink.old) (K.taken sink.new) result) }
     ensures usage { (AreWords (map string_bytes words.now) → ⊥) →
         Replied IsUsage (K.taken sink.old) (K.taken sink.new) result × (source.new ≡ source.old) × IsWordsEnd result }
     ensures words { AreWords (map string_bytes words.now) → result ≢ Status.Usage }
@@ -54,8 +51,8 @@ pub fn alone<S: Source, K: Sink>(
     ensures nothing_written { TookNothing result → sink.new ≡ sink.old }
 
     // Nothing is left of a text that is not too long.
-    ensures drained { HasRead result → IfSome (S.left source.old) (λ text.
-        length text ≤ 4194304 → S.left source.new ≡ Some []) }
+    ensures drained { HasRead plain.kind result → IfSome (S.left source.old) (λ text.
+        length text ≤ TEXT_LIMIT → S.left source.new ≡ Some []) }
 {
     if !are_valid(words) {
         return written(sink, Status::Usage, USAGE);

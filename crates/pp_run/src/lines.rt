@@ -1,6 +1,6 @@
 // The lines of the endings that show no store.
 ghost use Rattle.std.specs.Prelude.{◌≡◌, IfOk};
-ghost use Rattle.pp_propagation.specs.Replies.{which_name, limit_text, syntax_text};
+ghost use Rattle.pp_language.specs.Answers.{which_name, limit_text, syntax_text};
 
 use itoa::Buffer;
 use pp_language::Which;

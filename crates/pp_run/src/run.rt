@@ -4,7 +4,7 @@ ghost use Rattle.pp_algebra.specs.Terms.{count};
 ghost use Rattle.pp_sld.specs.Goals.{user};
 ghost use Rattle.pp_sld.specs.Verdicts.{most, HasVerdict};
 ghost use Rattle.pp_language.specs.Texts.{Text};
-ghost use Rattle.pp_propagation.specs.Replies.{run_depth};
+ghost use Rattle.pp_language.specs.declared.limits.TheConstants.{DEFAULT_DEPTH};
 ghost use Rattle.pp_term.specs.Meanings.{predicate_of, program};
 ghost use Rattle.pp_term.specs.WellFormed.{AreBelow, IsClause};
 ghost use Rattle.pp_resolve.specs.Facts.{HasNoBody};
@@ -28,7 +28,7 @@ pub(crate) enum End {
 pub(crate) struct Outcome {
     pub end: End,
     pub store: Row,
-    pub turns: u32,
+    pub turns: u64,
 }
 
 /// What a search says of its goal: it fails, it changes nothing, or it narrows the call to a row.
@@ -69,14 +69,14 @@ pub(crate) fn run(
     pred: Pred,
     arguments: &[Term],
     variables: u32,
-    turns: u32,
+    turns: u64,
 ) -> Result<Outcome, AllocError>
     requires clauses { All IsClause facts.now }
     requires facts { All HasNoBody facts.now }
     requires arity { length arguments.now ≡ pred.arity }
     requires below { AreBelow variables arguments.now }
     ensures ran { IfOk result (λ o. (named : List Text) →
-        Ran (program facts.now) (query_by variables named (predicate_of pred) arguments.now) run_depth turns (end_by o.end) o.store o.turns) }
+        Ran (program facts.now) (query_by variables named (predicate_of pred) arguments.now) DEFAULT_DEPTH turns (end_by o.end) o.store o.turns) }
 {
     let mut store = opening(alloc, variables)?;
     let mut under = face(alloc, &store, arguments)?;

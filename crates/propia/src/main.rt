@@ -2,30 +2,23 @@
 #![tactic(auto)]
 
 mod ends;
+mod serve;
 #[cfg(test)]
 mod tests;
 
 use ends::{StdinSource, StdoutSink};
-use pp_run::{Status, alone};
+use serve::{ended, served};
 use std::process::ExitCode;
 use std::{env, io};
 
 fn main(rt: HostRuntime) -> ExitCode {
     let mut source = StdinSource::new(rt.stdin());
     let mut sink = StdoutSink::new(rt.stdout());
-    let status = match words(&rt) {
-        Ok(words) => alone(rt.alloc(), &words, &mut source, &mut sink),
-        // Words that are no text are no command line.
-        Err(error) if error.kind() == io::ErrorKind::InvalidData => {
-            alone(rt.alloc(), &[], &mut source, &mut sink)
-        }
-        Err(_) => Status::Memory,
-    };
-    ExitCode::from(status.code())
+    ended(served(rt.alloc(), words(&rt), &mut source, &mut sink))
 }
 
-/// The words behind the program's own name.
+/// All words of the command line, the program's own name first.
 fn words(rt: &HostRuntime) -> io::Result<Vec<String>> {
-    let words: Vec<String> = env::args(rt)?.skip(1).collect(rt.alloc())?;
+    let words: Vec<String> = env::args(rt)?.collect(rt.alloc())?;
     Ok(words)
 }
