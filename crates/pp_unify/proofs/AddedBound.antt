@@ -4,10 +4,10 @@ use Rattle.std.proofs.Common.{zero}
 use Rattle.std.specs.Prelude.{nat_eq, slice_set, ◌↔◌}
 use Rattle.pp_algebra.specs.Covers.{MayGo}
 use Rattle.pp_algebra.specs.Solve.{equation}
-use Rattle.pp_unify.specs.Values.{term_at}
-use Rattle.pp_unify.specs.Soundness.{IsPlace}
-use Rattle.pp_unify.specs.Agreement.{Says, Follows}
-use Rattle.pp_unify.proofs.Assigning.{assigned, any_allows}
+use Rattle.pp_heap.specs.Values.{term_at}
+use Rattle.pp_heap.specs.Soundness.{IsPlace}
+use Rattle.pp_heap.specs.Agreement.{Says, Follows}
+use Rattle.pp_heap.proofs.Assigning.{assigned, any_allows}
 use Rattle.pp_unify.proofs.Equations.{AgreeAlike, verdict_same}
 use Rattle.std.proofs.lemmas.List.{get_or_append_left}
 use Rattle.std.proofs.Math.Seq.{get_or-append_seam, set-append_seam}
@@ -19,24 +19,24 @@ use Rattle.pp_algebra.proofs.Put.{put-put}
 use Rattle.pp_algebra.proofs.Antisym.{put-agree, put_all-agree}
 use Rattle.pp_algebra.specs.Numbered.{variables_from}
 use Rattle.pp_row.proofs.Numbering.{firsts-append}
-use Rattle.pp_unify.specs.declared.state.Slot.TheVariants as slots
-use Rattle.pp_unify.specs.declared.state.Slot.{Slot}
-use Rattle.pp_unify.specs.declared.state.Value.{Value}
-use Rattle.pp_unify.specs.declared.state.Value.TheVariants.{Variable, Int, Atom, Compound}
-use Rattle.pp_unify.specs.declared.state.Entry.TheVariants.{Bound}
-use Rattle.pp_unify.specs.declared.state.State.{State}
-use Rattle.pp_unify.specs.Values.{slot_at, slot_of, value_term, domain_by, slot_domain}
-use Rattle.pp_unify.specs.Stores.{Store, store_of, entries_of, solution, made, single}
-use Rattle.pp_unify.specs.Soundness.{IsLinked, IsTarget, IsGood}
-use Rattle.pp_unify.specs.Outcomes.{IsFree, IsChange, IsNow, IsValue, IsLater, IsAdded, IsAddedAs}
+use Rattle.pp_heap.specs.declared.state.Slot.TheVariants as slots
+use Rattle.pp_heap.specs.declared.state.Slot.{Slot}
+use Rattle.pp_heap.specs.declared.state.Value.{Value}
+use Rattle.pp_heap.specs.declared.state.Value.TheVariants.{Variable, Int, Atom, Compound}
+use Rattle.pp_heap.specs.declared.state.Entry.TheVariants.{Bound}
+use Rattle.pp_heap.specs.declared.state.State.{State}
+use Rattle.pp_heap.specs.Values.{slot_at, slot_of, value_term, domain_by, slot_domain}
+use Rattle.pp_heap.specs.Stores.{Store, store_of, entries_of, solution, made, single}
+use Rattle.pp_heap.specs.Soundness.{IsLinked, IsTarget, IsGood}
+use Rattle.pp_heap.specs.Outcomes.{IsFree, IsChange, IsNow, IsValue, IsLater, IsAdded, IsAddedAs}
 use Rattle.pp_unify.specs.States.{in_place, value_in, with_value}
 use Rattle.pp_unify.specs.Tops.{IsAmong}
-use Rattle.pp_unify.proofs.Made.{single_same, untouched}
-use Rattle.pp_unify.proofs.Solutions.{own_domains, solution_free, solution_agrees}
+use Rattle.pp_heap.proofs.Made.{single_same, untouched}
+use Rattle.pp_heap.proofs.Solutions.{own_domains, solution_free, solution_agrees}
 use Rattle.pp_unify.proofs.Heaps.{variable_cell}
 use Rattle.pp_unify.proofs.Among.{IsBelow, comes_from, put_below, variable_below, made_among}
-use Rattle.pp_unify.proofs.Binding.{IsBinding, binding_later, binding_solution}
-use Rattle.pp_unify.proofs.Setting.{slot_set}
+use Rattle.pp_heap.proofs.Binding.{IsBinding, binding_later, binding_solution}
+use Rattle.pp_heap.proofs.Setting.{slot_set}
 use Rattle.pp_unify.proofs.Adding.{firsts-from, map-agree, variables-join, put-join, from-push, from-below, values_below, more_slot}
 use Rattle.pp_unify.proofs.Present.{number, value_now, has_name}
 use Rattle.pp_unify.proofs.Verdicts.{row_of}

@@ -8,16 +8,16 @@ use Rattle.pp_algebra.specs.Covers.{IsIn}
 use Rattle.pp_algebra.specs.Canon.{place, firsts, canon}
 use Rattle.pp_algebra.proofs.Antisym.{put_all-agree}
 use Rattle.pp_algebra.specs.Numbered.{variables_from}
-use Rattle.pp_unify.specs.declared.state.Slot.{Slot}
-use Rattle.pp_unify.specs.declared.state.Slot.TheVariants as slots
-use Rattle.pp_unify.specs.declared.state.Entry.{Entry}
-use Rattle.pp_unify.specs.declared.state.State.{State}
-use Rattle.pp_unify.specs.Values.{slot_at, slot_domain}
-use Rattle.pp_unify.specs.Stores.{Store, store_of, entries_of, solution, made}
-use Rattle.pp_unify.specs.Soundness.{IsLinked, IsSound, IsGood}
+use Rattle.pp_heap.specs.declared.state.Slot.{Slot}
+use Rattle.pp_heap.specs.declared.state.Slot.TheVariants as slots
+use Rattle.pp_heap.specs.declared.state.Entry.{Entry}
+use Rattle.pp_heap.specs.declared.state.State.{State}
+use Rattle.pp_heap.specs.Values.{slot_at, slot_domain}
+use Rattle.pp_heap.specs.Stores.{Store, store_of, entries_of, solution, made}
+use Rattle.pp_heap.specs.Soundness.{IsLinked, IsSound, IsGood}
 use Rattle.pp_unify.specs.States.{with_new, with_many, row_at}
-use Rattle.pp_unify.proofs.Changes.{below_or, at_past}
-use Rattle.pp_unify.proofs.Made.{made_free}
+use Rattle.pp_heap.proofs.Changes.{below_or, at_past}
+use Rattle.pp_heap.proofs.Made.{made_free}
 use Rattle.pp_unify.proofs.Among.{made_among, comes_from_all, variable_below}
 use Rattle.pp_unify.proofs.Verdicts.{row_of}
 use Rattle.pp_unify.proofs.Adding.{canon_added, from-push, from-below, map-agree}

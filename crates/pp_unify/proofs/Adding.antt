@@ -16,15 +16,15 @@ use Rattle.pp_algebra.specs.Numbered.{variables_from}
 use Rattle.pp_domain.specs.Sets.{set_of}
 use Rattle.pp_row.proofs.Keys.{place_new, firsts_new}
 use Rattle.pp_row.proofs.Numbering.{place-front, firsts-append}
-use Rattle.pp_unify.specs.declared.state.Slot.{Slot}
-use Rattle.pp_unify.specs.declared.state.Slot.TheVariants as slots
-use Rattle.pp_unify.specs.declared.state.State.{State}
-use Rattle.pp_unify.specs.Values.{slot_at, slot_domain}
-use Rattle.pp_unify.specs.Stores.{store_of, entries_of, solution, made}
-use Rattle.pp_unify.specs.Soundness.{IsGood, IsPlace}
-use Rattle.pp_unify.specs.Outcomes.{IsAdded}
+use Rattle.pp_heap.specs.declared.state.Slot.{Slot}
+use Rattle.pp_heap.specs.declared.state.Slot.TheVariants as slots
+use Rattle.pp_heap.specs.declared.state.State.{State}
+use Rattle.pp_heap.specs.Values.{slot_at, slot_domain}
+use Rattle.pp_heap.specs.Stores.{store_of, entries_of, solution, made}
+use Rattle.pp_heap.specs.Soundness.{IsGood, IsPlace}
+use Rattle.pp_heap.specs.Outcomes.{IsAdded}
 use Rattle.pp_unify.specs.States.{with_new}
-use Rattle.pp_unify.proofs.Made.{made_free}
+use Rattle.pp_heap.proofs.Made.{made_free}
 use Rattle.pp_unify.proofs.Among.{made_among, comes_from_all}
 use Rattle.pp_unify.proofs.Verdicts.{row_of}
 

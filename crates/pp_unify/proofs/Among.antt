@@ -5,18 +5,18 @@ use Rattle.pp_algebra.specs.Terms.{Tree, int, node, variable, Trees, none, more,
 use Rattle.pp_algebra.specs.Covers.{IsIn}
 use Rattle.pp_algebra.proofs.Antisym.{IsIn-either}
 use Rattle.pp_algebra.proofs.Order.{IsIn-left, IsIn-right}
-use Rattle.pp_unify.specs.declared.state.Slot.{Slot}
-use Rattle.pp_unify.specs.declared.state.Slot.TheVariants.{Free, Alias, Int, Atom, Compound}
-use Rattle.pp_unify.specs.declared.state.Value.TheVariants as values
-use Rattle.pp_unify.specs.declared.state.Entry.{Entry}
-use Rattle.pp_unify.specs.declared.state.Entry.TheVariants.{Grown, Held, Bound, Narrowed, Added}
-use Rattle.pp_unify.specs.Values.{slot_at, slot_term}
-use Rattle.pp_unify.specs.Stores.{Store, before, single, made}
-use Rattle.pp_unify.specs.Soundness.{IsLinked, IsSound}
+use Rattle.pp_heap.specs.declared.state.Slot.{Slot}
+use Rattle.pp_heap.specs.declared.state.Slot.TheVariants.{Free, Alias, Int, Atom, Compound}
+use Rattle.pp_heap.specs.declared.state.Value.TheVariants as values
+use Rattle.pp_heap.specs.declared.state.Entry.{Entry}
+use Rattle.pp_heap.specs.declared.state.Entry.TheVariants.{Grown, Held, Bound, Narrowed, Added}
+use Rattle.pp_heap.specs.Values.{slot_at, slot_term}
+use Rattle.pp_heap.specs.Stores.{Store, before, single, made}
+use Rattle.pp_heap.specs.Soundness.{IsLinked, IsSound}
 use Rattle.pp_unify.specs.Tops.{IsAmong}
 use Rattle.pp_unify.proofs.Heaps.{variable_cell}
-use Rattle.pp_unify.proofs.Changes.{same_or_not, below_or, bound_within}
-use Rattle.pp_unify.proofs.Made.{single_same, single_other, made_free}
+use Rattle.pp_heap.proofs.Changes.{same_or_not, below_or, bound_within}
+use Rattle.pp_heap.proofs.Made.{single_same, single_other, made_free}
 
 mutual
   -- a variable of a term under s is one of what some variable of the term goes to

@@ -8,19 +8,20 @@ use Rattle.pp_algebra.specs.Solve.{equation}
 use Rattle.pp_algebra.specs.Canon.{canon}
 use Rattle.pp_algebra.proofs.Antisym.{put_all-agree}
 use Rattle.pp_algebra.specs.Numbered.{variables_from}
-use Rattle.pp_unify.specs.declared.state.Slot.{Slot}
-use Rattle.pp_unify.specs.declared.state.Slot.TheVariants as slots
-use Rattle.pp_unify.specs.declared.state.Value.{Value}
-use Rattle.pp_unify.specs.declared.state.Value.TheVariants.{Variable, Int, Atom, Compound}
-use Rattle.pp_unify.specs.declared.state.State.{State}
-use Rattle.pp_unify.specs.Values.{slot_at, cell_at, term_at, value_term, domain_by, slot_domain}
-use Rattle.pp_unify.specs.Stores.{Store, store_of, entries_of, solution, made}
-use Rattle.pp_unify.specs.Agreement.{Says, Agrees}
-use Rattle.pp_unify.specs.Soundness.{IsCompound, IsGood}
-use Rattle.pp_unify.specs.Outcomes.{IsNow, IsValue, IsSame, IsGrown, IsOpen, IsVerdict}
-use Rattle.pp_unify.proofs.Forests.{more_forest, more_term, more_cell}
-use Rattle.pp_unify.proofs.Keeping.{kept_itself, kept_through}
-use Rattle.pp_unify.proofs.Growing.{empty_forest}
+use Rattle.pp_heap.specs.declared.state.Slot.{Slot}
+use Rattle.pp_heap.specs.declared.state.Slot.TheVariants as slots
+use Rattle.pp_heap.specs.declared.state.Value.{Value}
+use Rattle.pp_heap.specs.declared.state.Value.TheVariants.{Variable, Int, Atom, Compound}
+use Rattle.pp_heap.specs.declared.state.State.{State}
+use Rattle.pp_heap.specs.Values.{slot_at, cell_at, term_at, value_term, domain_by, slot_domain}
+use Rattle.pp_heap.specs.Stores.{Store, store_of, entries_of, solution, made}
+use Rattle.pp_heap.specs.Agreement.{Says, Agrees}
+use Rattle.pp_heap.specs.Soundness.{IsCompound, IsGood}
+use Rattle.pp_heap.specs.Outcomes.{IsNow, IsValue, IsSame, IsGrown, IsVerdict}
+use Rattle.pp_unify.specs.Equating.{IsOpen}
+use Rattle.pp_heap.proofs.Forests.{more_forest, more_term, more_cell}
+use Rattle.pp_heap.proofs.Keeping.{kept_itself, kept_through}
+use Rattle.pp_heap.proofs.Growing.{empty_forest}
 use Rattle.pp_unify.proofs.Verdicts.{row_of}
 
 -- the same substitutions agree with both states

@@ -10,12 +10,12 @@ use Rattle.pp_algebra.specs.Members.{IsInteger}
 use Rattle.pp_algebra.proofs.Put.{put-put}
 use Rattle.pp_algebra.proofs.Antisym.{put-agree}
 use Rattle.pp_algebra.specs.Givens.{ranged, free, given, given_variable}
-use Rattle.pp_unify.specs.declared.state.Slot.{Slot}
-use Rattle.pp_unify.specs.declared.state.Value.{Value}
-use Rattle.pp_unify.specs.declared.state.Value.TheVariants.{Variable, Int}
-use Rattle.pp_unify.specs.declared.state.State.{State}
-use Rattle.pp_unify.specs.Values.{slot_at, slot_domain}
-use Rattle.pp_unify.specs.Stores.{store_of, entries_of, solution, made}
+use Rattle.pp_heap.specs.declared.state.Slot.{Slot}
+use Rattle.pp_heap.specs.declared.state.Value.{Value}
+use Rattle.pp_heap.specs.declared.state.Value.TheVariants.{Variable, Int}
+use Rattle.pp_heap.specs.declared.state.State.{State}
+use Rattle.pp_heap.specs.Values.{slot_at, slot_domain}
+use Rattle.pp_heap.specs.Stores.{store_of, entries_of, solution, made}
 use Rattle.pp_unify.specs.States.{value_in, in_place, present, states_of, domain_in}
 use Rattle.pp_unify.specs.Tops.{IsAmong, IsTop}
 use Rattle.pp_unify.proofs.Heaps.{IsNamed}

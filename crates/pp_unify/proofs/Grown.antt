@@ -15,9 +15,9 @@ use Rattle.pp_row.specs.Codes.{stack-cells_of, tree_of-cells_of}
 use Rattle.pp_row.specs.Reading.{stack, all_of, IsForest}
 use Rattle.pp_row.proofs.Renaming.{among-cells_of, renamed-cells_of, renamed_term}
 use Rattle.pp_row.specs.Cells.{variables_among}
-use Rattle.pp_unify.specs.declared.state.Slot.{Slot}
-use Rattle.pp_unify.specs.Values.{cell_at, term_at, shifted}
-use Rattle.pp_unify.specs.Soundness.{IsCompound}
+use Rattle.pp_heap.specs.declared.state.Slot.{Slot}
+use Rattle.pp_heap.specs.Values.{cell_at, term_at, shifted}
+use Rattle.pp_heap.specs.Soundness.{IsCompound}
 use Rattle.pp_algebra.specs.Numbered.{counted_from}
 use Rattle.pp_unify.specs.Tops.{IsAmong}
 

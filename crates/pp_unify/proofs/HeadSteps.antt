@@ -16,30 +16,30 @@ use Rattle.pp_algebra.specs.Rows.{Domains}
 use Rattle.pp_algebra.specs.Least.{first, rest, arguments}
 use Rattle.pp_algebra.specs.Solve.{equation}
 use Rattle.pp_algebra.proofs.Put.{put-put, count-put_all}
-use Rattle.pp_unify.specs.declared.places.Span.{Span}
-use Rattle.pp_unify.specs.declared.state.Value.{Value}
-use Rattle.pp_unify.specs.declared.state.Value.TheVariants.{Variable, Int, Atom, Compound}
-use Rattle.pp_unify.specs.declared.state.State.{State}
-use Rattle.pp_unify.specs.Values.{cell_at, term_at, value_term, shifted}
+use Rattle.pp_heap.specs.declared.spans.Span.{Span}
+use Rattle.pp_heap.specs.declared.state.Value.{Value}
+use Rattle.pp_heap.specs.declared.state.Value.TheVariants.{Variable, Int, Atom, Compound}
+use Rattle.pp_heap.specs.declared.state.State.{State}
+use Rattle.pp_heap.specs.Values.{cell_at, term_at, value_term, shifted}
 use Rattle.pp_unify.specs.Tops.{IsAmong}
-use Rattle.pp_unify.specs.declared.state.Slot.{Slot}
+use Rattle.pp_heap.specs.declared.state.Slot.{Slot}
 use Rattle.pp_algebra.specs.Covers.{IsIn}
 use Rattle.pp_algebra.specs.Terms.{variables}
 use Rattle.pp_unify.proofs.Among.{comes_from}
 use Rattle.pp_unify.proofs.Heaps.{variable_cell}
 use Rattle.pp_unify.proofs.Grown.{shifted_cells, counted_term, forest_cells, cells_among, reads_one}
-use Rattle.pp_unify.specs.Stores.{store_of}
-use Rattle.pp_unify.specs.Agreement.{Agrees, AllWide, Follows, Excludes}
-use Rattle.pp_unify.specs.Soundness.{IsCompound, IsGood}
-use Rattle.pp_unify.specs.Outcomes.{AreMore, IsAnswer, IsVerdict}
-use Rattle.pp_unify.specs.Spans.{IsSpan, take_trees, span_terms, terms_of}
+use Rattle.pp_heap.specs.Stores.{store_of}
+use Rattle.pp_heap.specs.Agreement.{Agrees, AllWide, Follows, Excludes}
+use Rattle.pp_heap.specs.Soundness.{IsCompound, IsGood}
+use Rattle.pp_heap.specs.Outcomes.{AreMore, IsAnswer, IsVerdict}
+use Rattle.pp_heap.specs.Spans.{IsSpan, take_trees, span_terms, terms_of}
 use Rattle.pp_algebra.specs.Numbered.{counted_from}
 use Rattle.pp_unify.specs.Heads.{counted, IsPast, IsHead, IsPiece}
-use Rattle.pp_unify.proofs.Forests.{term_cell, stack_append}
-use Rattle.pp_unify.proofs.Changes.{below_or}
-use Rattle.pp_unify.proofs.Keeping.{kept_through}
-use Rattle.pp_unify.specs.Outcomes.{IsFurther, IsValue}
-use Rattle.pp_unify.proofs.Growing.{empty_forest, shifted_at}
+use Rattle.pp_heap.proofs.Forests.{term_cell, stack_append}
+use Rattle.pp_heap.proofs.Changes.{below_or}
+use Rattle.pp_heap.proofs.Keeping.{kept_through}
+use Rattle.pp_heap.specs.Outcomes.{IsFurther, IsValue}
+use Rattle.pp_heap.proofs.Growing.{empty_forest, shifted_at}
 use Rattle.pp_unify.proofs.PairSteps.{named, more_equal}
 
 pub counted_put : (s : ℕ → Tree ℕ) (n : ℕ) (t : Tree ℕ) → put s (counted_from n t) ≡ put (counted n s) t

@@ -14,8 +14,8 @@ use Rattle.pp_row.proofs.Next.{next, cell_of}
 use Rattle.pp_row.proofs.Piece.{cells_from}
 use Rattle.pp_row.proofs.Renaming.{among-append, among-cells_of}
 use Rattle.pp_row.specs.Cells.{variables_among}
-use Rattle.pp_unify.specs.Values.{cell_at, term_at}
-use Rattle.pp_unify.specs.Soundness.{IsCompound}
+use Rattle.pp_heap.specs.Values.{cell_at, term_at}
+use Rattle.pp_heap.specs.Soundness.{IsCompound}
 
 is_var : (c : Cell) (w : ℕ) → IsIn w (variables_in c) → c ≡ Var w
 is_var (Int n) w i = absurd i

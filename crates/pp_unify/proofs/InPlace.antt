@@ -14,11 +14,11 @@ use Rattle.pp_algebra.proofs.CanonLemmas.{nat_eq-IsSame, at, name, at-place, can
 use Rattle.pp_row.specs.Columns.{trees_of, sets_of, row_by}
 use Rattle.pp_row.proofs.Numbering.{placed, names_of, names_push, columns_push}
 use Rattle.pp_row.proofs.ColumnLists.{put-trees_of}
-use Rattle.pp_unify.specs.declared.state.Slot.{Slot}
-use Rattle.pp_unify.specs.declared.state.State.{State}
-use Rattle.pp_unify.specs.Values.{slot_at, slot_domain}
-use Rattle.pp_unify.specs.Stores.{store_of, entries_of, solution, made}
-use Rattle.pp_unify.specs.Soundness.{IsGood}
+use Rattle.pp_heap.specs.declared.state.Slot.{Slot}
+use Rattle.pp_heap.specs.declared.state.State.{State}
+use Rattle.pp_heap.specs.Values.{slot_at, slot_domain}
+use Rattle.pp_heap.specs.Stores.{store_of, entries_of, solution, made}
+use Rattle.pp_heap.specs.Soundness.{IsGood}
 use Rattle.pp_unify.specs.States.{value_in, row_in, present, states_of, IsOver}
 use Rattle.pp_unify.specs.Tops.{IsAmong}
 use Rattle.pp_unify.proofs.Among.{comes_from_all}

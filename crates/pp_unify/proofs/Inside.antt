@@ -9,13 +9,14 @@ use Rattle.pp_row.proofs.Next.{next}
 use Rattle.pp_algebra.specs.Terms.{Tree, Trees, none, more, put, put_all, count, join}
 use Rattle.pp_algebra.specs.Least.{rest, arguments}
 use Rattle.pp_algebra.proofs.Put.{count-put_all}
-use Rattle.pp_unify.specs.declared.places.Pair.{Pair}
-use Rattle.pp_unify.specs.Values.{cell_at, term_at}
-use Rattle.pp_unify.specs.Soundness.{IsCompound}
-use Rattle.pp_unify.specs.Spans.{span_terms, left_span, right_span, IsPair, sizes, Opens}
-use Rattle.pp_unify.proofs.Forests.{term_cell}
-use Rattle.pp_unify.proofs.Walk.{put_all-join, sizes-join, opened_at}
-use Rattle.pp_unify.proofs.Work.{inside_span, inside_terms}
+use Rattle.pp_unify.specs.declared.pair.Pair.{Pair}
+use Rattle.pp_heap.specs.Values.{cell_at, term_at}
+use Rattle.pp_heap.specs.Soundness.{IsCompound}
+use Rattle.pp_heap.specs.Spans.{span_terms, sizes}
+use Rattle.pp_unify.specs.Pairs.{left_span, right_span, IsPair, Opens}
+use Rattle.pp_heap.proofs.Forests.{term_cell}
+use Rattle.pp_heap.proofs.Walk.{put_all-join, sizes-join, opened_at}
+use Rattle.pp_heap.proofs.Work.{inside_span, inside_terms}
 use Rattle.pp_unify.proofs.Pairs.{equal_push, sizes_push}
 use Rattle.pp_unify.proofs.PairSteps.{arguments_equal, head_of_span, more_equal}
 

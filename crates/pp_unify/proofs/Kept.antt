@@ -3,10 +3,10 @@ use Rattle.std.proofs.Common.{◌≡◌, ℕ, suc, List, [], ◌∷◌, ◌++◌
 use Rattle.std.proofs.lemmas.List.{length-reverse}
 use Rattle.std.proofs.Math.Seq.{take-append_seam}
 use Rattle.pp_algebra.specs.Rows.{Row}
-use Rattle.pp_unify.specs.declared.state.Entry.{Entry}
-use Rattle.pp_unify.specs.declared.state.State.{State}
-use Rattle.pp_unify.specs.Stores.{Store, store_of, entries_of, before, undone}
-use Rattle.pp_unify.specs.Soundness.{IsKept}
+use Rattle.pp_heap.specs.declared.state.Entry.{Entry}
+use Rattle.pp_heap.specs.declared.state.State.{State}
+use Rattle.pp_heap.specs.Stores.{Store, store_of, entries_of, before, undone}
+use Rattle.pp_heap.specs.Soundness.{IsKept}
 use Rattle.pp_unify.specs.States.{present, IsLonger, row_at, states, states_of}
 
 present-last : (rs : List Row) (r : Row) → present (rs ++ r ∷ []) ≡ r

@@ -9,19 +9,20 @@ use Rattle.pp_algebra.specs.Terms.{Tree, int, node, variable, put, size}
 use Rattle.pp_algebra.specs.Rows.{Domains}
 use Rattle.pp_algebra.specs.Solve.{equation}
 use Rattle.pp_algebra.proofs.Put.{count-put_all}
-use Rattle.pp_unify.specs.declared.state.Value.{Value}
-use Rattle.pp_unify.specs.declared.state.Value.TheVariants.{Variable, Int, Atom, Compound}
-use Rattle.pp_unify.specs.declared.state.State.{State}
+use Rattle.pp_heap.specs.declared.state.Value.{Value}
+use Rattle.pp_heap.specs.declared.state.Value.TheVariants.{Variable, Int, Atom, Compound}
+use Rattle.pp_heap.specs.declared.state.State.{State}
 use Rattle.pp_unify.specs.declared.unify.Met.{Met}
 use Rattle.pp_unify.specs.declared.unify.Met.TheVariants.{Apart, Done, Open}
-use Rattle.pp_unify.specs.Values.{cell_at, term_at, value_term}
-use Rattle.pp_unify.specs.Stores.{store_of, solution}
-use Rattle.pp_unify.specs.Agreement.{Agrees, Excludes}
-use Rattle.pp_unify.specs.Soundness.{IsCompound, IsFixed, IsGood}
-use Rattle.pp_unify.specs.Outcomes.{IsAnswer, HasMet, met_by}
-use Rattle.pp_unify.proofs.Solutions.{own_domains, solution_agrees}
-use Rattle.pp_unify.proofs.Forests.{term_cell}
-use Rattle.pp_unify.proofs.Assigning.{nothing_solves, answer_turned}
+use Rattle.pp_heap.specs.Values.{cell_at, term_at, value_term}
+use Rattle.pp_heap.specs.Stores.{store_of, solution}
+use Rattle.pp_heap.specs.Agreement.{Agrees, Excludes}
+use Rattle.pp_heap.specs.Soundness.{IsCompound, IsFixed, IsGood}
+use Rattle.pp_heap.specs.Outcomes.{IsAnswer}
+use Rattle.pp_unify.specs.Equating.{HasMet, met_by}
+use Rattle.pp_heap.proofs.Solutions.{own_domains, solution_agrees}
+use Rattle.pp_heap.proofs.Forests.{term_cell}
+use Rattle.pp_heap.proofs.Assigning.{nothing_solves, answer_turned}
 
 pub met_of_answer : (a b : State) (t u : Tree ℕ) (r : Bool) → IsAnswer a b t u r → HasMet a b t u (met_by r)
 met_of_answer a b t u true h = h

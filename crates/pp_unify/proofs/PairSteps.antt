@@ -7,21 +7,23 @@ use Rattle.pp_row.proofs.Next.{cell_of}
 use Rattle.pp_algebra.specs.Terms.{Tree, int, node, variable, Trees, none, more, put, put_all, size}
 use Rattle.pp_algebra.specs.Rows.{Domains}
 use Rattle.pp_algebra.specs.Least.{rest, arguments}
-use Rattle.pp_unify.specs.declared.places.Span.{Span}
-use Rattle.pp_unify.specs.declared.places.Pair.{Pair}
-use Rattle.pp_unify.specs.declared.state.State.{State}
-use Rattle.pp_unify.specs.Values.{cell_at, term_at}
-use Rattle.pp_unify.specs.Stores.{Store, store_of, solution}
-use Rattle.pp_unify.specs.Agreement.{Agrees}
-use Rattle.pp_unify.specs.Soundness.{IsCompound, IsGood}
-use Rattle.pp_unify.specs.Outcomes.{IsSame, IsOpen, Solves, frees}
-use Rattle.pp_unify.specs.Spans.{span_terms, left_span, right_span, IsSpan, IsPair, AllEqual, both_sizes, sizes, Pushes, weight}
-use Rattle.pp_unify.proofs.Forests.{term_cell}
-use Rattle.pp_unify.proofs.Keeping.{solution_same}
-use Rattle.pp_unify.proofs.Solutions.{own_domains, solution_agrees}
-use Rattle.pp_unify.proofs.Walk.{take_first, opened_at, one}
-use Rattle.pp_unify.proofs.Sizes.{weight-less, weight-fall}
-use Rattle.pp_unify.proofs.Merging.{sizes_same}
+use Rattle.pp_heap.specs.declared.spans.Span.{Span}
+use Rattle.pp_unify.specs.declared.pair.Pair.{Pair}
+use Rattle.pp_heap.specs.declared.state.State.{State}
+use Rattle.pp_heap.specs.Values.{cell_at, term_at}
+use Rattle.pp_heap.specs.Stores.{Store, store_of, solution}
+use Rattle.pp_heap.specs.Agreement.{Agrees}
+use Rattle.pp_heap.specs.Soundness.{IsCompound, IsGood}
+use Rattle.pp_heap.specs.Outcomes.{IsSame, Solves, frees}
+use Rattle.pp_unify.specs.Equating.{IsOpen}
+use Rattle.pp_heap.specs.Spans.{span_terms, IsSpan, sizes, weight}
+use Rattle.pp_unify.specs.Pairs.{left_span, right_span, IsPair, AllEqual, both_sizes, Pushes}
+use Rattle.pp_heap.proofs.Forests.{term_cell}
+use Rattle.pp_heap.proofs.Keeping.{solution_same}
+use Rattle.pp_heap.proofs.Solutions.{own_domains, solution_agrees}
+use Rattle.pp_heap.proofs.Walk.{take_first, opened_at, one}
+use Rattle.pp_heap.proofs.Sizes.{weight-less, weight-fall}
+use Rattle.pp_heap.proofs.Merging.{sizes_same}
 use Rattle.pp_unify.proofs.Pairs.{equal_push, sizes_push}
 
 pub head_of_span : (heap : List Cell) (s : Span) → IsSpan heap s → span_terms heap s ≡ more (term_at heap s.at) (rest (span_terms heap s))

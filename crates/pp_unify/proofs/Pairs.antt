@@ -4,8 +4,9 @@ use Rattle.std.specs.Prelude.{◌↔◌}
 use Rattle.std.proofs.lemmas.List.Elements.{All-push, All-pop}
 use Rattle.pp_row.specs.declared.cell.Cell.{Cell}
 use Rattle.pp_algebra.specs.Terms.{Tree, Trees, none, put_all}
-use Rattle.pp_unify.specs.declared.places.Pair.{Pair}
-use Rattle.pp_unify.specs.Spans.{span_terms, left_span, right_span, IsPair, AllEqual, both_sizes, sizes, Pushes}
+use Rattle.pp_unify.specs.declared.pair.Pair.{Pair}
+use Rattle.pp_heap.specs.Spans.{span_terms, sizes}
+use Rattle.pp_unify.specs.Pairs.{left_span, right_span, IsPair, AllEqual, both_sizes, Pushes}
 
 pub equal_push : (heap : List Cell) (s : ℕ → Tree ℕ) (ps : List Pair) (p : Pair) → AllEqual heap s (ps ++ p ∷ []) ↔ (AllEqual heap s ps × (put_all s (span_terms heap (left_span p)) ≡ put_all s (span_terms heap (right_span p))))
 equal_push heap s [] p = ((λ h. (tt, h.0)), λ h. (h.1, tt))

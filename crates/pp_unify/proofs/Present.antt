@@ -11,12 +11,12 @@ use Rattle.pp_algebra.proofs.Antisym.{put-agree, put_all-agree}
 use Rattle.pp_algebra.proofs.Order.{IsIn-left, IsIn-right}
 use Rattle.pp_algebra.proofs.CanonLemmas.{nat_eq-IsSame, at, name, at-place, has-all, domain_at-place, canon-IsCanonical}
 use Rattle.pp_algebra.specs.Numbered.{variables_from, column}
-use Rattle.pp_unify.specs.declared.state.Slot.{Slot}
-use Rattle.pp_unify.specs.declared.state.Slot.TheVariants.{Free, Alias, Int, Atom, Compound}
-use Rattle.pp_unify.specs.declared.state.Entry.{Entry}
-use Rattle.pp_unify.specs.Values.{slot_at, slot_domain}
-use Rattle.pp_unify.specs.Stores.{Store, made}
-use Rattle.pp_unify.specs.Soundness.{IsLinked, IsPlace}
+use Rattle.pp_heap.specs.declared.state.Slot.{Slot}
+use Rattle.pp_heap.specs.declared.state.Slot.TheVariants.{Free, Alias, Int, Atom, Compound}
+use Rattle.pp_heap.specs.declared.state.Entry.{Entry}
+use Rattle.pp_heap.specs.Values.{slot_at, slot_domain}
+use Rattle.pp_heap.specs.Stores.{Store, made}
+use Rattle.pp_heap.specs.Soundness.{IsLinked, IsPlace}
 use Rattle.pp_unify.specs.States.{value_in, pattern_in, row_at}
 
 column-from : (f : ℕ → Tree ℕ) (a n v : ℕ) → v < n → column (put_all f (variables_from a n)) v ≡ f (a + v)

@@ -7,19 +7,19 @@ use Rattle.pp_row.proofs.Next.{cell_of}
 use Rattle.pp_algebra.specs.Terms.{Tree, int, node, variable, Trees, none, more, put, put_all, join}
 use Rattle.pp_algebra.specs.Least.{arguments}
 use Rattle.pp_algebra.proofs.Put.{count-put_all}
-use Rattle.pp_unify.specs.declared.places.Span.{Span}
-use Rattle.pp_unify.specs.declared.state.State.{State}
-use Rattle.pp_unify.specs.declared.state.Value.{Value}
-use Rattle.pp_unify.specs.declared.state.Value.TheVariants as values
-use Rattle.pp_unify.specs.Values.{cell_at, term_at, value_term}
-use Rattle.pp_unify.specs.Stores.{store_of, solution}
-use Rattle.pp_unify.specs.Soundness.{IsCompound, IsGood}
-use Rattle.pp_unify.specs.Outcomes.{IsNow}
-use Rattle.pp_unify.specs.Spans.{terms_of}
+use Rattle.pp_heap.specs.declared.spans.Span.{Span}
+use Rattle.pp_heap.specs.declared.state.State.{State}
+use Rattle.pp_heap.specs.declared.state.Value.{Value}
+use Rattle.pp_heap.specs.declared.state.Value.TheVariants as values
+use Rattle.pp_heap.specs.Values.{cell_at, term_at, value_term}
+use Rattle.pp_heap.specs.Stores.{store_of, solution}
+use Rattle.pp_heap.specs.Soundness.{IsCompound, IsGood}
+use Rattle.pp_heap.specs.Outcomes.{IsNow}
+use Rattle.pp_heap.specs.Spans.{terms_of}
 use Rattle.pp_unify.specs.Writing.{top_cell, written, IsWritten}
-use Rattle.pp_unify.proofs.Forests.{term_cell}
-use Rattle.pp_unify.proofs.Solutions.{solution_free}
-use Rattle.pp_unify.proofs.Walk.{put_all-join, sizes-join, opened_at, one}
+use Rattle.pp_heap.proofs.Forests.{term_cell}
+use Rattle.pp_heap.proofs.Solutions.{solution_free}
+use Rattle.pp_heap.proofs.Walk.{put_all-join, sizes-join, opened_at, one}
 
 pub cells-join : (ts us : Trees ℕ) → cells_of_all (join ts us) ≡ cells_of_all ts ++ cells_of_all us
 cells-join none us = refl

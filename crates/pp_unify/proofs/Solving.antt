@@ -12,17 +12,17 @@ use Rattle.pp_algebra.proofs.Antisym.{put-agree, put_all-agree}
 use Rattle.pp_algebra.proofs.Order.{may_stay}
 use Rattle.pp_algebra.proofs.Resume.{wide_at}
 use Rattle.pp_algebra.specs.Numbered.{variables_from}
-use Rattle.pp_unify.specs.declared.state.Slot.{Slot}
-use Rattle.pp_unify.specs.declared.state.Slot.TheVariants.{Free, Alias, Int, Atom, Compound}
-use Rattle.pp_unify.specs.declared.state.Entry.{Entry}
-use Rattle.pp_unify.specs.Values.{slot_at, value_term, domain_by, slot_domain}
-use Rattle.pp_unify.specs.Stores.{Store, made}
-use Rattle.pp_unify.specs.Soundness.{IsLinked, IsSound}
-use Rattle.pp_unify.specs.Agreement.{Says, Agrees, AllWide}
+use Rattle.pp_heap.specs.declared.state.Slot.{Slot}
+use Rattle.pp_heap.specs.declared.state.Slot.TheVariants.{Free, Alias, Int, Atom, Compound}
+use Rattle.pp_heap.specs.declared.state.Entry.{Entry}
+use Rattle.pp_heap.specs.Values.{slot_at, value_term, domain_by, slot_domain}
+use Rattle.pp_heap.specs.Stores.{Store, made}
+use Rattle.pp_heap.specs.Soundness.{IsLinked, IsSound}
+use Rattle.pp_heap.specs.Agreement.{Says, Agrees, AllWide}
 use Rattle.pp_unify.specs.States.{value_in, row_at}
-use Rattle.pp_unify.proofs.Changes.{below_or}
-use Rattle.pp_unify.proofs.Slots.{agrees_bound, agrees_from}
-use Rattle.pp_unify.proofs.Made.{made_free, made_most, made_equates}
+use Rattle.pp_heap.proofs.Changes.{below_or}
+use Rattle.pp_heap.proofs.Slots.{agrees_bound, agrees_from}
+use Rattle.pp_heap.proofs.Made.{made_free, made_most, made_equates}
 use Rattle.pp_unify.proofs.Among.{IsBelow}
 use Rattle.pp_unify.proofs.Present.{values, names, number, named, value_now, has_name, around_term, around_row, goes_back, domain_named, row_now}
 

@@ -4,19 +4,19 @@ use Rattle.pp_row.specs.declared.cell.Cell.{Cell}
 use Rattle.pp_row.specs.declared.cell.Cell.TheVariants as cells
 use Rattle.pp_algebra.specs.Terms.{Tree, int, node, variable, none, put}
 use Rattle.pp_row.specs.Cells.{cells_of, IsTerm}
-use Rattle.pp_unify.specs.declared.state.Slot.{Slot}
-use Rattle.pp_unify.specs.declared.state.Value.{Value}
-use Rattle.pp_unify.specs.declared.state.Value.TheVariants.{Variable, Int, Atom, Compound}
-use Rattle.pp_unify.specs.declared.state.State.{State}
-use Rattle.pp_unify.specs.Values.{cell_at, term_at}
-use Rattle.pp_unify.specs.Stores.{store_of, solution}
-use Rattle.pp_unify.specs.Soundness.{IsGood, IsCompound}
-use Rattle.pp_unify.specs.Outcomes.{IsValue}
+use Rattle.pp_heap.specs.declared.state.Slot.{Slot}
+use Rattle.pp_heap.specs.declared.state.Value.{Value}
+use Rattle.pp_heap.specs.declared.state.Value.TheVariants.{Variable, Int, Atom, Compound}
+use Rattle.pp_heap.specs.declared.state.State.{State}
+use Rattle.pp_heap.specs.Values.{cell_at, term_at}
+use Rattle.pp_heap.specs.Stores.{store_of, solution}
+use Rattle.pp_heap.specs.Soundness.{IsGood, IsCompound}
+use Rattle.pp_heap.specs.Outcomes.{IsValue}
 use Rattle.pp_unify.specs.Tops.{IsNode, IsTop}
-use Rattle.pp_unify.proofs.Forests.{variable_at, int_at, atom_at}
+use Rattle.pp_heap.proofs.Forests.{variable_at, int_at, atom_at}
 use Rattle.pp_unify.proofs.Heaps.{IsNamed, compound_named}
 use Rattle.pp_unify.proofs.Grown.{forest_cells, last_term, last_within}
-use Rattle.pp_unify.proofs.Solutions.{own_domains, solution_free, solution_agrees}
+use Rattle.pp_heap.proofs.Solutions.{own_domains, solution_free, solution_agrees}
 
 -- a term by its first cell
 module _ (t : Tree ℕ) (cs : List Cell) (e : cs ≡ cells_of t) (h : IsTerm t) where

@@ -3,10 +3,10 @@ use Rattle.std.proofs.Common.{◌≡◌, ℕ, Bool, true, false, List, length, a
 use Rattle.pp_algebra.specs.Terms.{Tree, count}
 use Rattle.pp_algebra.specs.Rows.{Row}
 use Rattle.pp_algebra.specs.Solve.{Item, put_item}
-use Rattle.pp_unify.specs.declared.state.State.{State}
-use Rattle.pp_unify.specs.Stores.{store_of, entries_of}
-use Rattle.pp_unify.specs.Soundness.{IsGood}
-use Rattle.pp_unify.specs.Outcomes.{IsVerdict}
+use Rattle.pp_heap.specs.declared.state.State.{State}
+use Rattle.pp_heap.specs.Stores.{store_of, entries_of}
+use Rattle.pp_heap.specs.Soundness.{IsGood}
+use Rattle.pp_heap.specs.Outcomes.{IsVerdict}
 use Rattle.pp_unify.specs.States.{present, value_in, row_at, states_of, IsOver, IsSolvedBy}
 use Rattle.pp_unify.specs.Tops.{IsAmong}
 use Rattle.pp_unify.proofs.Kept.{present-states_of}

@@ -7,16 +7,16 @@ use Rattle.pp_algebra.specs.Terms.{Tree, Trees, put, put_all, count}
 use Rattle.pp_algebra.specs.Rows.{Domains}
 use Rattle.pp_algebra.specs.Least.{rest}
 use Rattle.pp_algebra.specs.Solve.{equation}
-use Rattle.pp_unify.specs.declared.places.Span.{Span}
-use Rattle.pp_unify.specs.declared.state.Slot.{Slot}
-use Rattle.pp_unify.specs.declared.state.State.{State}
-use Rattle.pp_unify.specs.Values.{cell_at, term_at}
-use Rattle.pp_unify.specs.Stores.{Store, store_of}
-use Rattle.pp_unify.specs.Soundness.{IsCompound}
-use Rattle.pp_unify.specs.Outcomes.{IsValue}
-use Rattle.pp_unify.specs.declared.state.Value.{Value}
-use Rattle.pp_unify.specs.Agreement.{Agrees, AllWide, Excludes}
-use Rattle.pp_unify.specs.Spans.{IsSpan, terms_of}
+use Rattle.pp_heap.specs.declared.spans.Span.{Span}
+use Rattle.pp_heap.specs.declared.state.Slot.{Slot}
+use Rattle.pp_heap.specs.declared.state.State.{State}
+use Rattle.pp_heap.specs.Values.{cell_at, term_at}
+use Rattle.pp_heap.specs.Stores.{Store, store_of}
+use Rattle.pp_heap.specs.Soundness.{IsCompound}
+use Rattle.pp_heap.specs.Outcomes.{IsValue}
+use Rattle.pp_heap.specs.declared.state.Value.{Value}
+use Rattle.pp_heap.specs.Agreement.{Agrees, AllWide, Excludes}
+use Rattle.pp_heap.specs.Spans.{IsSpan, terms_of}
 use Rattle.pp_algebra.specs.Numbered.{counted_from}
 
 -- whole terms whose variables, counted from a first one, have slots

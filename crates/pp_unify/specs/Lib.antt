@@ -1,9 +1,5 @@
-pub mod Values
-pub mod Stores
-pub mod Agreement
-pub mod Soundness
-pub mod Spans
-pub mod Outcomes
+pub mod Pairs
+pub mod Equating
 pub mod States
 pub mod Writing
 pub mod Tops

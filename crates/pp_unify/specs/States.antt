@@ -9,10 +9,10 @@ use Rattle.pp_algebra.specs.Solve.{Item, IsSolved, HasNone}
 use Rattle.pp_algebra.specs.Numbered.{variables_from, column}
 use Rattle.pp_row.specs.Codes.{row_code}
 use Rattle.pp_row.specs.Columns.{trees_of}
-use Rattle.pp_unify.specs.declared.state.Entry.{Entry}
-use Rattle.pp_unify.specs.declared.state.State.{State}
-use Rattle.pp_unify.specs.Values.{slot_at, slot_domain}
-use Rattle.pp_unify.specs.Stores.{Store, store_of, entries_of, before, made}
+use Rattle.pp_heap.specs.declared.state.Entry.{Entry}
+use Rattle.pp_heap.specs.declared.state.State.{State}
+use Rattle.pp_heap.specs.Values.{slot_at, slot_domain}
+use Rattle.pp_heap.specs.Stores.{Store, store_of, entries_of, before, made}
 
 abbrev pub no_columns : Row
 no_columns = record { columns = none; domains = [] }

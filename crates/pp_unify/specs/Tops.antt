@@ -6,9 +6,9 @@ use Rattle.pp_row.specs.Cells.{cells_of}
 use Rattle.pp_algebra.specs.Terms.{Tree, int, node, variable, variables}
 use Rattle.pp_algebra.specs.Covers.{IsIn}
 use Rattle.pp_algebra.specs.Members.{IsInteger}
-use Rattle.pp_unify.specs.declared.state.Slot.{Slot}
-use Rattle.pp_unify.specs.declared.state.Value.{Value}
-use Rattle.pp_unify.specs.declared.state.Value.TheVariants.{Variable, Int, Atom, Compound}
+use Rattle.pp_heap.specs.declared.state.Slot.{Slot}
+use Rattle.pp_heap.specs.declared.state.Value.{Value}
+use Rattle.pp_heap.specs.declared.state.Value.TheVariants.{Variable, Int, Atom, Compound}
 
 -- each variable of the term has a slot
 abbrev pub IsAmong : List Slot → Tree ℕ → Type 0

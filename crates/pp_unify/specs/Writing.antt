@@ -4,13 +4,13 @@ use Rattle.pp_row.specs.declared.cell.Cell.{Cell}
 use Rattle.pp_row.specs.declared.cell.Cell.TheVariants as cells
 use Rattle.pp_row.specs.Cells.{cells_of, cells_of_all}
 use Rattle.pp_algebra.specs.Terms.{Tree, Trees, put, put_all, size}
-use Rattle.pp_unify.specs.declared.places.Span.{Span}
-use Rattle.pp_unify.specs.declared.state.Value.{Value}
-use Rattle.pp_unify.specs.declared.state.Value.TheVariants.{Variable, Int, Atom, Compound}
-use Rattle.pp_unify.specs.declared.state.State.{State}
-use Rattle.pp_unify.specs.Values.{cell_at, value_term}
-use Rattle.pp_unify.specs.Stores.{solution}
-use Rattle.pp_unify.specs.Spans.{terms_of, sizes}
+use Rattle.pp_heap.specs.declared.spans.Span.{Span}
+use Rattle.pp_heap.specs.declared.state.Value.{Value}
+use Rattle.pp_heap.specs.declared.state.Value.TheVariants.{Variable, Int, Atom, Compound}
+use Rattle.pp_heap.specs.declared.state.State.{State}
+use Rattle.pp_heap.specs.Values.{cell_at, value_term}
+use Rattle.pp_heap.specs.Stores.{solution}
+use Rattle.pp_heap.specs.Spans.{terms_of, sizes}
 
 -- the first cell of a value
 abbrev pub top_cell : List Cell → Value → Cell

@@ -10,9 +10,10 @@ ghost use Rattle.pp_row.specs.Givens.{given_of};
 ghost use Rattle.pp_unify.specs.States.{no_columns, present, value_in, in_place, IsOver, with_new, with_many, with_value, IsLonger, IsSolvedBy, domain_in, row_in};
 ghost use Rattle.pp_algebra.specs.Numbered.{counted_from};
 
-use crate::state::{State, Value};
+use crate::{terms, unify};
 use indexmap::IndexSet;
 use pp_domain::Domain;
+use pp_heap::{State, Value};
 use pp_row::{Given, Row, Term};
 use std::alloc::{AllocError, Global};
 use std::marker::Model;
@@ -47,7 +48,7 @@ impl Model for Bindings {
     ghost use Rattle.std.specs.Prelude.{List};
     ghost use Rattle.pp_algebra.specs.Rows.{Row};
     ghost use Rattle.pp_unify.specs.States.{states_of, states_code};
-    ghost use Rattle.pp_unify.specs.Soundness.{IsGood};
+    ghost use Rattle.pp_heap.specs.Soundness.{IsGood};
 
     ghost Value = { List Row };
 
@@ -103,8 +104,8 @@ impl Bindings {
         ensures kept_term { IfOk result (λ _. present self.new ≡ with_value (present self.old) (in_place (present self.old) (counted_from first term.now))) }
         ensures kept { IsLonger self.old self.new }
     {
-        let value = self.state.entered(term, first)?;
-        self.state.add_bound(value)
+        let value = terms::entered(&mut self.state, term, first)?;
+        terms::add_bound(&mut self.state, value)
     }
 
     /// Makes two terms equal, and answers false where nothing does: unification with an occurs check (Robinson, 1965).
@@ -143,7 +144,7 @@ impl Bindings {
         ensures solved { IfOk result (λ b'. IsSolvedBy (present self.old) (equation (in_place (present self.old) (counted_from a_first a.now)) (in_place (present self.old) (counted_from b_first b.now))) b' (present self.new)) }
         ensures kept { IsLonger self.old self.new }
     {
-        self.state.unify_terms(a, a_first, b, b_first)
+        unify::unify_terms(&mut self.state, a, a_first, b, b_first)
     }
 
     /// Makes two variables equal, and answers false where nothing does.
@@ -153,7 +154,7 @@ impl Bindings {
         ensures solved { IfOk result (λ b'. IsSolvedBy (present self.old) (equation (value_in (present self.old) a) (value_in (present self.old) b)) b' (present self.new)) }
         ensures kept { IsLonger self.old self.new }
     {
-        self.state.unify_variables(a, b)
+        unify::unify_variables(&mut self.state, a, b)
     }
 
     /// Makes a variable be in a domain, and answers false where nothing does.
@@ -187,10 +188,10 @@ impl Bindings {
         requires over { IsOver (present self.now) term.now }
         ensures { given_of result ≡ given (present self.now).domains (in_place (present self.now) term.now) }
     {
-        match self.state.top(term) {
+        match terms::top(&self.state, term) {
             Value::Int(value) => Given::Int(value),
             Value::Variable(free) => {
-                if self.state.domain_of(free).is_some() {
+                if terms::domain_of(&self.state, free).is_some() {
                     Given::Ranged
                 } else {
                     Given::Free
@@ -205,8 +206,8 @@ impl Bindings {
         requires over { IsOver (present self.now) term.now }
         ensures { option_map (λ d. set_of d.now) result ≡ domain_in (present self.now) (in_place (present self.now) term.now) }
     {
-        match self.state.top(term) {
-            Value::Variable(free) => self.state.domain_of(free),
+        match terms::top(&self.state, term) {
+            Value::Variable(free) => terms::domain_of(&self.state, free),
             _ => None,
         }
     }
@@ -220,10 +221,10 @@ impl Bindings {
         let mut numbers = IndexSet::new(alloc);
         let mut numbered = Vec::with_capacity(alloc, columns.len())?;
         for column in columns {
-            let resolved = self.state.resolved(column)?;
+            let resolved = terms::resolved(&self.state, column)?;
             numbered.push(resolved.numbered(&mut numbers)?)?;
         }
-        Ok(Row::from_numbered(numbered, self.state.domains_of(&numbers)?))
+        Ok(Row::from_numbered(numbered, terms::domains_of(&self.state, &numbers)?))
     }
 
     /// A copy, with all its kept states.

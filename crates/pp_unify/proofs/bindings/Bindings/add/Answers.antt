@@ -2,7 +2,7 @@ use Rattle.std.proofs.Common.{◌≡◌, length, refl, sym, ap, ◌∙◌, subst
 use Rattle.std.proofs.lemmas.Result.{IfOk-weaker}
 use Rattle.pp_algebra.specs.Terms.{count}
 use Rattle.pp_row.specs.Columns.{set_by}
-use Rattle.pp_unify.specs.Outcomes.{IsAdded}
+use Rattle.pp_heap.specs.Outcomes.{IsAdded}
 use Rattle.pp_unify.specs.States.{present, states_of, with_new, IsLonger}
 use Rattle.pp_unify.proofs.Kept.{kept_longer}
 use Rattle.pp_unify.proofs.Verdicts.{present_row, count_present}

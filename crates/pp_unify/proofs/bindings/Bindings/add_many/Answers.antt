@@ -1,7 +1,7 @@
 use Rattle.std.proofs.Common.{◌≡◌, ◌++◌, length, None, refl, sym, ap, ◌∙◌, subst, replicate}
 use Rattle.std.proofs.lemmas.Result.{IfOk-weaker}
 use Rattle.pp_algebra.specs.Terms.{count}
-use Rattle.pp_unify.specs.declared.state.Slot.TheVariants.{Free}
+use Rattle.pp_heap.specs.declared.state.Slot.TheVariants.{Free}
 use Rattle.pp_unify.specs.States.{present, states_of, with_many, IsLonger}
 use Rattle.pp_unify.proofs.Kept.{kept_longer}
 use Rattle.pp_unify.proofs.Verdicts.{present_row, count_present}

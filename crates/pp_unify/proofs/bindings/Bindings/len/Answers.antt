@@ -1,6 +1,6 @@
 use Rattle.std.proofs.Common.{◌≡◌, length, sym, ◌∙◌, rules, subst}
 use Rattle.pp_algebra.specs.Rows.{IsRow}
-use Rattle.pp_unify.specs.Stores.{store_of, entries_of}
+use Rattle.pp_heap.specs.Stores.{store_of, entries_of}
 use Rattle.pp_unify.proofs.Present.{row_now}
 use Rattle.pp_unify.proofs.Verdicts.{count_present, present_row}
 use Rattle.pp_unify.proofs.bindings.Bindings.len.Goals as goal

@@ -3,7 +3,7 @@ use Rattle.std.proofs.lemmas.Result.{IfOk-weaker}
 use Rattle.pp_algebra.specs.Solve.{membership, put_item}
 use Rattle.pp_algebra.specs.Terms.{variable}
 use Rattle.pp_domain.specs.Sets.{set_of}
-use Rattle.pp_unify.specs.Outcomes.{IsVerdict}
+use Rattle.pp_heap.specs.Outcomes.{IsVerdict}
 use Rattle.pp_unify.specs.States.{present, value_in, states_of, IsLonger, IsSolvedBy}
 use Rattle.pp_unify.proofs.Kept.{kept_longer}
 use Rattle.pp_unify.proofs.Among.{variable_below}

@@ -3,7 +3,7 @@ use Rattle.std.specs.Prelude.{nat_eq}
 use Rattle.pp_algebra.specs.Canon.{firsts}
 use Rattle.pp_algebra.specs.Terms.{put, variables}
 use Rattle.pp_row.proofs.Numbering.{placed}
-use Rattle.pp_unify.specs.Stores.{solution}
+use Rattle.pp_heap.specs.Stores.{solution}
 use Rattle.pp_unify.specs.States.{present, IsOver}
 use Rattle.pp_unify.proofs.Verdicts.{over_among}
 use Rattle.pp_unify.proofs.InPlace.{numbered_more, is_row, numbered_row}

@@ -1,7 +1,7 @@
 use Rattle.std.proofs.Common.{◌≡◌, map, take}
 use Rattle.pp_algebra.specs.Terms.{put}
 use Rattle.pp_row.proofs.Numbering.{placed, names_of}
-use Rattle.pp_unify.specs.Stores.{solution}
+use Rattle.pp_heap.specs.Stores.{solution}
 use Rattle.pp_unify.proofs.bindings.Bindings.resolve_row.Given as goal
 
 abbrev pub invariant-loop-column : goal.invariant-loop-column

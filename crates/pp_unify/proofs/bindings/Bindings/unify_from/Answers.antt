@@ -1,7 +1,7 @@
 use Rattle.std.proofs.Common.{refl, subst}
 use Rattle.std.proofs.lemmas.Result.{IfOk-weaker}
 use Rattle.pp_algebra.specs.Solve.{equation, put_item}
-use Rattle.pp_unify.specs.Outcomes.{IsVerdict}
+use Rattle.pp_heap.specs.Outcomes.{IsVerdict}
 use Rattle.pp_unify.specs.States.{present, value_in, states_of, IsLonger, IsSolvedBy}
 use Rattle.pp_algebra.specs.Numbered.{counted_from}
 use Rattle.pp_unify.proofs.Kept.{kept_longer}
@@ -17,7 +17,7 @@ unify_terms-requires-clause-other c = over_among c.self.inside.state c.args.self
 pub returns-clause-solved : goal.returns-clause-solved
 returns-clause-solved c =
     let old = c.self.inside.state in
-    let new = c.unify_terms.new.self in
+    let new = c.unify_terms.new.state in
     let was = c.args.self.now in
     let one = counted_from c.args.a_first c.args.a.now in
     let other = counted_from c.args.b_first c.args.b.now in
@@ -27,4 +27,4 @@ returns-clause-solved c =
     c.unify_terms.ensures.verdict
 
 pub returns-clause-kept : goal.returns-clause-kept
-returns-clause-kept c = subst (λ rs. IsLonger rs (states_of c.unify_terms.new.self)) c.self.view_is (kept_longer c.self.inside.state c.unify_terms.new.self c.unify_terms.ensures.further.kept)
+returns-clause-kept c = subst (λ rs. IsLonger rs (states_of c.unify_terms.new.state)) c.self.view_is (kept_longer c.self.inside.state c.unify_terms.new.state c.unify_terms.ensures.further.kept)

@@ -2,7 +2,7 @@ use Rattle.std.proofs.Common.{◌<◌, length, refl, arith, subst}
 use Rattle.std.proofs.lemmas.Result.{IfOk-weaker}
 use Rattle.pp_algebra.specs.Solve.{equation, put_item}
 use Rattle.pp_algebra.specs.Terms.{variable}
-use Rattle.pp_unify.specs.Outcomes.{IsVerdict}
+use Rattle.pp_heap.specs.Outcomes.{IsVerdict}
 use Rattle.pp_unify.specs.States.{present, value_in, states_of, IsLonger, IsSolvedBy}
 use Rattle.pp_unify.proofs.Kept.{kept_longer}
 use Rattle.pp_unify.proofs.Among.{variable_below}
@@ -18,7 +18,7 @@ unify_variables-requires-clause-other c = omega (arith, c.requires.right, count_
 pub returns-clause-solved : goal.returns-clause-solved
 returns-clause-solved c =
     let old = c.self.inside.state in
-    let new = c.unify_variables.new.self in
+    let new = c.unify_variables.new.state in
     let was = c.args.self.now in
     let item = equation (variable c.args.a) (variable c.args.b) in
     let n = count_present old was c.self.view_is in
@@ -30,4 +30,4 @@ returns-clause-solved c =
     c.unify_variables.ensures.verdict
 
 pub returns-clause-kept : goal.returns-clause-kept
-returns-clause-kept c = subst (λ rs. IsLonger rs (states_of c.unify_variables.new.self)) c.self.view_is (kept_longer c.self.inside.state c.unify_variables.new.self c.unify_variables.ensures.later.kept)
+returns-clause-kept c = subst (λ rs. IsLonger rs (states_of c.unify_variables.new.state)) c.self.view_is (kept_longer c.self.inside.state c.unify_variables.new.state c.unify_variables.ensures.later.kept)

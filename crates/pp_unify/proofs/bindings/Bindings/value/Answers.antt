@@ -2,7 +2,7 @@ use Rattle.std.proofs.Common.{sym, ap, ◌∙◌}
 use Rattle.pp_domain.specs.Sets.{set_of}
 use Rattle.pp_algebra.specs.Givens.{integer, given}
 use Rattle.pp_unify.specs.States.{present}
-use Rattle.pp_unify.proofs.Words.{word}
+use Rattle.pp_heap.proofs.Words.{word}
 use Rattle.pp_unify.proofs.Verdicts.{over_among}
 use Rattle.pp_unify.proofs.Givens.{top_int, top_variable, top_other, place_int, place_other, place_given, given_some, given_none}
 use Rattle.pp_unify.proofs.bindings.Bindings.value.Goals as goal

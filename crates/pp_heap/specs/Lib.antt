@@ -1,0 +1,6 @@
+pub mod Values
+pub mod Stores
+pub mod Agreement
+pub mod Soundness
+pub mod Spans
+pub mod Outcomes

@@ -1,0 +1,257 @@
+//! Binding a variable, and giving it another domain.
+ghost use Rattle.std.specs.Prelude.{◌≡◌, ℕ, ◌<◌, ◌≤◌, ◌++◌, ◌∷◌, [], length, slice_set, IfOk, OnErr, MatchOption, Some, IfSome};
+ghost use Rattle.std.specs.FinSet as set;
+ghost use Rattle.pp_algebra.specs.Solve.{membership};
+ghost use Rattle.pp_algebra.specs.Terms.{variable};
+ghost use Rattle.pp_domain.specs.Sets.{set_of};
+ghost use Rattle.pp_heap.specs.Values.{slot_of, value_term, domain_by};
+ghost use Rattle.pp_heap.specs.Stores.{store_of};
+ghost use Rattle.pp_heap.specs.Soundness.{IsGood, IsFixed, IsPlace};
+ghost use Rattle.pp_heap.specs.Outcomes.{IsFree, IsUnbound, IsChange, IsSame, IsAnswer, IsVerdict, HasOnly, IsMeeting, IsSettled, IsHeld, IsAllowed, IsCalm, IsLater};
+
+use crate::state::{Entry, Slot, State, Value};
+use pp_domain::Domain;
+use std::alloc::AllocError;
+
+/// What two domains have in common: nothing, one integer, or what the domain at a place holds.
+#[derive(Clone, Copy, Debug, PartialEq, Eq)]
+pub(crate) enum Meeting {
+    Empty,
+    One(i64),
+    Many(Option<u32>),
+}
+
+/// The one member, where there are no others.
+fn only_member(domain: &Domain) -> Option<i64>
+    ensures { MatchOption result (2 ≤ set.len (set_of domain.now)) (HasOnly (set_of domain.now)) }
+{
+    let intervals = domain.intervals();
+    if domain.size() == 1 {
+        Some(intervals[0].0)
+    } else {
+        None
+    }
+}
+
+impl State {
+    /// Binds a free variable.
+    pub fn bind(
+        &mut self,
+        variable: u32,
+        domain: Option<u32>,
+        value: Value,
+    ) -> Result<(), AllocError>
+        requires free { IsFree (store_of self.old) variable domain }
+        ensures done { IfOk result (λ _. IsChange self.old self.new (Entry.Bound variable domain) (record (store_of self.old) { slots = slice_set self.old.slots.items variable (slot_of value) })) }
+        ensures err { OnErr result (IsSame self.old self.new) }
+    {
+        self.trail.push(Entry::Bound(variable, domain))?;
+        self.slots[variable as usize] = value.slot();
+        Ok(())
+    }
+
+    /// Gives a free variable another domain.
+    fn give(&mut self, variable: u32, old: Option<u32>, new: Option<u32>) -> Result<(), AllocError>
+        requires free { IsFree (store_of self.old) variable old }
+        ensures done { IfOk result (λ _. IsChange self.old self.new (Entry.Narrowed variable old) (record (store_of self.old) { slots = slice_set self.old.slots.items variable (Slot.Free new) })) }
+        ensures err { OnErr result (IsSame self.old self.new) }
+    {
+        self.trail.push(Entry::Narrowed(variable, old))?;
+        self.slots[variable as usize] = Slot::Free(new);
+        Ok(())
+    }
+
+    /// Puts a domain to the domains, and answers its place.
+    pub(crate) fn hold(&mut self, domain: Domain) -> Result<u32, AllocError>
+        requires good { IsGood self.old }
+        requires wide { 2 ≤ set.len (set_of domain) }
+        ensures calm { IsCalm self.old self.new }
+        ensures place { IfOk result (λ d. d ≡ length self.old.domains.items) }
+        ensures domains { IfOk result (λ _. self.new.domains.items ≡ self.old.domains.items ++ domain ∷ []) }
+    {
+        let place = u32::try_from(self.domains.len()).map_err(|_| AllocError)?;
+        self.trail.push(Entry::Held(place))?;
+        self.domains.push(domain)?;
+        Ok(place)
+    }
+
+    /// What is in the domain, which is held where it has at least two integers.
+    fn settle(&mut self, domain: Option<Domain>) -> Result<Meeting, AllocError>
+        requires good { IsGood self.old }
+        ensures calm { IsCalm self.old self.new }
+        ensures settled { IfOk result (IsSettled self.new.domains.items domain) }
+    {
+        let Some(domain) = domain else {
+            return Ok(Meeting::Empty);
+        };
+        match only_member(&domain) {
+            Some(value) => Ok(Meeting::One(value)),
+            None => Ok(Meeting::Many(Some(self.hold(domain)?))),
+        }
+    }
+
+    /// What the domains at two places have in common.
+    fn meet_places(&mut self, one: Option<u32>, other: Option<u32>) -> Result<Meeting, AllocError>
+        requires good { IsGood self.old }
+        requires one { IsPlace self.old.domains.items one }
+        requires other { IsPlace self.old.domains.items other }
+        ensures calm { IsCalm self.old self.new }
+        ensures meeting { IfOk result (IsMeeting self.new.domains.items (domain_by self.old.domains.items one) (domain_by self.old.domains.items other)) }
+    {
+        match (one, other) {
+            (None, _) => Ok(Meeting::Many(other)),
+            (_, None) => Ok(Meeting::Many(one)),
+            (Some(one), Some(other)) => {
+                let common = self.domains[one as usize].meet(&self.domains[other as usize])?;
+                self.settle(common)
+            }
+        }
+    }
+
+    /// What a domain and the domain at a place have in common.
+    fn meet_domain(&mut self, place: Option<u32>, domain: &Domain) -> Result<Meeting, AllocError>
+        requires good { IsGood self.old }
+        requires place { IsPlace self.old.domains.items place }
+        ensures calm { IsCalm self.old self.new }
+        ensures meeting { IfOk result (IsMeeting self.new.domains.items (domain_by self.old.domains.items place) (Some (set_of domain.now))) }
+    {
+        let common = match place {
+            None => Some(domain.copy()?),
+            Some(place) => self.domains[place as usize].meet(domain)?,
+        };
+        self.settle(common)
+    }
+
+    /// Makes two free variables one: the later one is bound to the earlier one, or both to an integer.
+    pub fn merge(&mut self, one: u32, other: u32) -> Result<bool, AllocError>
+        requires good { IsGood self.old }
+        requires one { IsUnbound (store_of self.old) one }
+        requires other { IsUnbound (store_of self.old) other }
+        ensures later { IsLater self.old self.new }
+        ensures answer { IfOk result (IsAnswer self.old self.new (variable one) (variable other)) }
+    {
+        if one < other {
+            self.merge_later(one, other)
+        } else if other < one {
+            self.merge_later(other, one)
+        } else {
+            Ok(true)
+        }
+    }
+
+    /// The same of two variables of which the first is the earlier one.
+    fn merge_later(&mut self, low: u32, high: u32) -> Result<bool, AllocError>
+        requires good { IsGood self.old }
+        requires low { IsUnbound (store_of self.old) low }
+        requires high { IsUnbound (store_of self.old) high }
+        requires order { low < high }
+        ensures later { IsLater self.old self.new }
+        ensures answer { IfOk result (IsAnswer self.old self.new (variable low) (variable high)) }
+    {
+        let low_domain = self.domain_place(low);
+        let high_domain = self.domain_place(high);
+        match self.meet_places(low_domain, high_domain)? {
+            Meeting::Empty => Ok(false),
+            Meeting::One(value) => {
+                self.bind(low, low_domain, Value::Int(value))?;
+                self.bind(high, high_domain, Value::Int(value))?;
+                Ok(true)
+            }
+            Meeting::Many(domain) => {
+                self.give(low, low_domain, domain)?;
+                self.bind(high, high_domain, Value::Variable(low))?;
+                Ok(true)
+            }
+        }
+    }
+
+    /// The place of a free variable's domain.
+    pub fn domain_place(&self, variable: u32) -> Option<u32>
+        requires unbound { IsUnbound (store_of self.now) variable }
+        ensures { IsFree (store_of self.now) variable result }
+    {
+        match self.slots[variable as usize] {
+            Slot::Free(domain) => domain,
+            _ => None,
+        }
+    }
+
+    /// Binds a free variable to what is no variable.
+    pub fn assign(&mut self, free: u32, value: Value) -> Result<bool, AllocError>
+        requires good { IsGood self.old }
+        requires unbound { IsUnbound (store_of self.old) free }
+        requires fixed { IsFixed self.old.heap.items value }
+        ensures later { IsLater self.old self.new }
+        ensures answer { IfOk result (IsAnswer self.old self.new (variable free) (value_term self.old.heap.items value)) }
+    {
+        let domain = self.domain_place(free);
+        let allowed = self.may_be(free, domain, value)?;
+        if allowed {
+            self.bind(free, domain, value)?;
+        }
+        Ok(allowed)
+    }
+
+    /// Whether a free variable may be bound to what is no variable: its domain allows it, and it isn't in it.
+    fn may_be(&self, free: u32, domain: Option<u32>, value: Value) -> Result<bool, AllocError>
+        requires good { IsGood self.now }
+        requires free { IsFree (store_of self.now) free domain }
+        requires fixed { IsFixed self.now.heap.items value }
+        ensures { IfOk result (IsAllowed self.now free domain value) }
+    {
+        match value {
+            Value::Int(value) => Ok(self.holds(domain, value)),
+            Value::Compound(place) => match domain {
+                Some(_) => Ok(false),
+                None => Ok(!self.occurs(free, place)?),
+            },
+            _ => Ok(domain.is_none()),
+        }
+    }
+
+    /// Whether the integer is in the domain at the place.
+    fn holds(&self, place: Option<u32>, value: i64) -> bool
+        requires place { IsPlace self.now.domains.items place }
+        ensures { IsHeld (domain_by self.now.domains.items place) value result }
+    {
+        match place {
+            None => true,
+            Some(place) => self.domains[place as usize].has(value),
+        }
+    }
+
+    /// Makes a variable be in the domain.
+    pub fn narrow(&mut self, number: u32, domain: &Domain) -> Result<bool, AllocError>
+        requires good { IsGood self.old }
+        requires within { number < length self.old.slots.items }
+        ensures later { IsLater self.old self.new }
+        ensures verdict { IfOk result (IsVerdict self.old self.new (membership (variable number) (set_of domain.now))) }
+    {
+        match self.value_of(number) {
+            Value::Variable(free) => self.narrow_free(free, domain),
+            Value::Int(value) => Ok(domain.has(value)),
+            _ => Ok(false),
+        }
+    }
+
+    /// Makes a free variable be in the domain.
+    fn narrow_free(&mut self, free: u32, domain: &Domain) -> Result<bool, AllocError>
+        requires good { IsGood self.old }
+        requires unbound { IsUnbound (store_of self.old) free }
+        ensures later { IsLater self.old self.new }
+        ensures verdict { IfOk result (IsVerdict self.old self.new (membership (variable free) (set_of domain.now))) }
+    {
+        let place = self.domain_place(free);
+        match self.meet_domain(place, domain)? {
+            Meeting::Empty => Ok(false),
+            Meeting::One(value) => {
+                self.bind(free, place, Value::Int(value))?;
+                Ok(true)
+            }
+            Meeting::Many(narrowed) => {
+                self.give(free, place, narrowed)?;
+                Ok(true)
+            }
+        }
+    }
+}
