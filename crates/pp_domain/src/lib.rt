@@ -8,7 +8,5 @@ mod joining;
 pub mod laws;
 mod places;
 mod sharing;
-#[cfg(test)]
-mod tests;
 
 pub use domain::Domain;

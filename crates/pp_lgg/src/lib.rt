@@ -4,8 +4,6 @@
 mod domains;
 mod pair;
 mod rows;
-#[cfg(test)]
-mod tests;
 mod walk;
 
 pub use rows::join;

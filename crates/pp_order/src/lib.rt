@@ -3,8 +3,6 @@
 
 mod reach;
 mod rows;
-#[cfg(test)]
-mod tests;
 mod walk;
 
 pub use rows::covers;

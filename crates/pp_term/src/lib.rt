@@ -6,8 +6,6 @@ mod lists;
 mod names;
 mod pred;
 mod query;
-#[cfg(test)]
-mod tests;
 
 pub use clause::{Clause, Goal};
 pub use lists::{Goals, Items, Numbers};

@@ -1,6 +1,6 @@
 use Rattle.pp_algebra.specs.Rows.{AreWide}
 use Rattle.pp_row.specs.Columns.{sets_of}
-use Rattle.pp_order.proofs.tests.row.Given as goal
+use Rattle.pp_rows_tests.proofs.tests.samples.row.Given as goal
 
 abbrev pub invariant-loop-range : goal.invariant-loop-range
-invariant-loop-range l = AreWide (sets_of l.domains.items)
+invariant-loop-range g l = AreWide (sets_of l.domains.items)

@@ -1,5 +1,0 @@
-use Rattle.pp_lgg.proofs.Columns.{same_width}
-use Rattle.pp_lgg.proofs.tests.joined.Goals as goal
-
-pub join-requires : goal.join-requires
-join-requires c = record { same_width = same_width c.columns.result.now c.columns-2.result.now c.args.a.now.columns c.args.b.now.columns c.columns.ensures.columns c.columns-2.ensures.columns c.if-columns.true }
