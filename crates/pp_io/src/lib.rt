@@ -8,8 +8,6 @@ mod give;
 mod memory;
 mod reading;
 mod steady;
-#[cfg(test)]
-mod tests;
 mod writing;
 
 pub use ends::{Failed, Sink, Source};

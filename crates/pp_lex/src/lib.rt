@@ -5,8 +5,6 @@ mod front;
 mod gap;
 mod lists;
 mod scan;
-#[cfg(test)]
-mod tests;
 
 pub use lists::{Sentence, SentenceList, Sentences, Tail, Tokens};
 pub use pp_language::{Kind, Token};

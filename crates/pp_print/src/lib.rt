@@ -8,8 +8,6 @@ mod occurring;
 mod rows;
 mod stores;
 mod terms;
-#[cfg(test)]
-mod tests;
 
 pub use domains::domain_text;
 pub use rows::row_text;

@@ -9,8 +9,6 @@ mod program;
 mod progress;
 mod sentence;
 mod terms;
-#[cfg(test)]
-mod tests;
 mod text;
 
 pub use fault::ReadFault;

@@ -3,8 +3,6 @@
 
 mod answers;
 mod least;
-#[cfg(test)]
-mod tests;
 
 pub use answers::first_answers;
 pub use least::first_least;

@@ -8,8 +8,6 @@ mod lines;
 mod reply;
 mod run;
 mod store;
-#[cfg(test)]
-mod tests;
 mod words;
 
 pub use command::alone;

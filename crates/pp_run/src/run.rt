@@ -111,6 +111,3 @@ pub(crate) fn run(
         turns,
     })
 }
-
-#[cfg(test)]
-mod tests;

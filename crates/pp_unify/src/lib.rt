@@ -6,8 +6,6 @@ mod head;
 mod laws;
 mod pair;
 mod terms;
-#[cfg(test)]
-mod tests;
 mod unify;
 mod writing;
 

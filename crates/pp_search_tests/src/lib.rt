@@ -1,0 +1,5 @@
+//! Tests of bindings and of the answers of a goal, by their public calls.
+#![tactic(auto)]
+
+#[cfg(test)]
+mod tests;
