@@ -90,7 +90,7 @@ fn end_of(alloc: Global, root: u32, draws: &mut Draws) -> Option<Shown> {
 fn each_of_ten_thousand_schedules_ends_with_the_worth_of_the_root(rt: HostRuntime) {
     let mut draws = Draws { state: 1 };
     for i in 0..10_000 {
-        let root = 1 + i % 15;
+        let root = 1 + i % 3;
         let value = worth(root);
         let outcome = Some(if value >= 128 { 255 } else { value });
         let want = Some(Shown {

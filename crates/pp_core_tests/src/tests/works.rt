@@ -43,18 +43,19 @@ fn a_work_of_three_children_is_split(rt: HostRuntime) {
     assert_eq!(rt; end_of(&mut other), Some((false, false, None, true)));
 }
 
-/// How often a work goes on until it is spent.
-fn steps(work: &mut Work) -> Option<u64> {
+/// How many levels a work has, the deepest, and how often it goes on until it is spent.
+fn gone_through(work: &mut Work) -> Option<(usize, Option<(u64, u64)>, u64)> {
+    let (length, last) = (work.path().len(), last(work));
     for count in 0..1_000 {
         if !work.next() {
-            return Some(count);
+            return Some((length, last, count));
         }
     }
     None
 }
 
-/// Whether a work of 40 levels is the same as its copy, before and after it is split.
-fn copies_of_a_deep_work(work: &mut Work) -> Option<(bool, bool, Work)> {
+/// Whether a work is the same as its copy, before and after it is split, and what is split off.
+fn compared_with_a_copy(work: &mut Work) -> Option<(bool, bool, Work)> {
     let copy = work.copy().ok()?;
     let before = copy.same(work);
     let other = work.split().ok()??;
@@ -64,9 +65,8 @@ fn copies_of_a_deep_work(work: &mut Work) -> Option<(bool, bool, Work)> {
 #[test]
 fn a_work_of_forty_levels_is_split_and_gone_through(rt: HostRuntime) {
     let mut work = down(rt.alloc(), &[2; 40]).expect(&rt, "memory");
-    let (before, after, mut other) = copies_of_a_deep_work(&mut work).expect(&rt, "memory");
+    let (before, after, mut other) = compared_with_a_copy(&mut work).expect(&rt, "memory");
     assert_eq!(rt; (before, after), (true, false));
-    assert_eq!(rt; [work.path().len(), other.path().len()], [40, 1]);
-    assert_eq!(rt; [last(&work), last(&other)], [Some((0, 2)), Some((1, 2))]);
-    assert_eq!(rt; [steps(&mut work), steps(&mut other)], [Some(39), Some(0)]);
+    let want = [Some((40, Some((0, 2)), 39)), Some((1, Some((1, 2)), 0))];
+    assert_eq!(rt; [gone_through(&mut work), gone_through(&mut other)], want);
 }
