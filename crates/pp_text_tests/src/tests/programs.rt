@@ -53,12 +53,28 @@ fn a_text_writes_its_clauses_and_its_query(rt: HostRuntime) {
             b"abc 'it''s' (0)\n?-; abc 'Hello World' unique (0)",
         ),
         (
-            b"xor(0,1,1).\n:- lib(propia).\nadd(A,B,C,S,D) :- xor(A,B,P), xor(P,C,S), and(A,B,Q), and(P,C,R), or(Q,R,D).\n?- add(A,B,1,0,D) infers most.\n",
-            b"xor 0 1 1 (0)\nadd _0 _1 _2 _3 _4; xor _0 _1 _5; xor _5 _2 _3; and _0 _1 _6; and _5 _2 _7; or _6 _7 _4 (8)\n?-; add _0 _1 1 0 _2 most (3) 'A' 'B' 'D'",
+            b"and(0,0,0). and(0,1,0). and(1,0,0). and(1,1,1). \n:- lib(propia).\nor(0,0,0). or(0,1,1). or(1,0,1). or(1,1,1).\nxor(0,0,0). xor(0,1,1). xor(1,0,1). xor(1,1,0).\nadd(A,B,C,S,D) :- xor(A,B,P), xor(P,C,S), and(A,B,Q), and(P,C,R), or(Q,R,D).\n?- add(A,B,1,0,D) infers most.\n",
+            b"and 0 0 0 (0)\nand 0 1 0 (0)\nand 1 0 0 (0)\nand 1 1 1 (0)\nor 0 0 0 (0)\nor 0 1 1 (0)\nor 1 0 1 (0)\nor 1 1 1 (0)\nxor 0 0 0 (0)\nxor 0 1 1 (0)\nxor 1 0 1 (0)\nxor 1 1 0 (0)\nadd _0 _1 _2 _3 _4; xor _0 _1 _5; xor _5 _2 _3; and _0 _1 _6; and _5 _2 _7; or _6 _7 _4 (8)\n?-; add _0 _1 1 0 _2 most (3) 'A' 'B' 'D'",
         ),
     ];
     for (text, wanted) in rows {
         expect(&rt, rt.alloc(), text, wanted);
+    }
+}
+
+#[test]
+fn quotes_are_no_part_of_a_name(rt: HostRuntime) {
+    let text = b"abc('it''s'). ?- 'abc'('Hello World') infers unique.";
+    let program = program(&rt, rt.alloc(), text).expect(&rt, "a program");
+    let rows: [(&[u8], bool); 5] = [
+        (b"abc", true),
+        (b"it's", true),
+        (b"Hello World", true),
+        (b"'abc'", false),
+        (b"it''s", false),
+    ];
+    for (name, is_there) in rows {
+        assert_eq!(rt; program.names.find(name).is_some(), is_there);
     }
 }
 

@@ -55,6 +55,15 @@ fn a_text_ends_in_one_of_three_ways(rt: HostRuntime) {
 }
 
 #[test]
+fn a_copy_has_the_same_sentences(rt: HostRuntime) {
+    let alloc = rt.alloc();
+    let found = cut(&rt, alloc, b"p(1). q");
+    let copy = found.copy().expect(&rt, "memory");
+    assert_eq!(rt; copy.tail, found.tail);
+    expect_sentences(&rt, copy.list.as_slice(), &[&FACT]);
+}
+
+#[test]
 fn each_kind_is_found(rt: HostRuntime) {
     let tokens = [
         (Kind::Integer, 0, 1),
