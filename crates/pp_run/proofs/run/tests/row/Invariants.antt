@@ -1,6 +1,0 @@
-use Rattle.pp_algebra.specs.Rows.{AreWide}
-use Rattle.pp_row.specs.Columns.{sets_of}
-use Rattle.pp_run.proofs.run.tests.row.Given as goal
-
-abbrev pub invariant-loop-range : goal.invariant-loop-range
-invariant-loop-range l = AreWide (sets_of l.domains.items)
