@@ -56,11 +56,19 @@ fn reads_all_within_the_limit(rt: HostRuntime) {
     expect(&rt, alloc, (0, 1, 9), 0, Ok(0), 0);
 }
 
+/// Ten bytes in pieces of three, read from a source whose call `failing` fails.
+fn ten(rt: &impl Abort, alloc: Global, failing: u64) -> Result<Vec<u8>, ReadError> {
+    let bytes = counted(rt, alloc, 10);
+    let mut source = MemorySource::new(bytes, 3, only(rt, alloc, failing));
+    read_all(alloc, &mut source, 10)
+}
+
 #[test]
 fn ten_bytes_in_pieces_of_three_take_five_reads(rt: HostRuntime) {
     let alloc = rt.alloc();
-    expect(&rt, alloc, (10, 3, 5), 10, Err(ReadError::Fault), 0);
-    expect(&rt, alloc, (10, 3, 6), 10, Ok(10), 0);
+    assert_eq!(rt; ten(&rt, alloc, 5), Err(ReadError::Fault));
+    let bytes = ten(&rt, alloc, 6).expect(&rt, "all");
+    assert_eq!(rt; bytes, counted(&rt, alloc, 10));
 }
 
 #[test]

@@ -34,7 +34,8 @@ fn memory_is_found(rt: HostRuntime) {
     let mut source = SteadySource::new(text(&rt, alloc), 65_536);
     let mut sink = SteadySink::new(alloc, 4_096).expect(&rt, "memory");
     let status = status_of(&rt, alloc, &mut source, &mut sink);
-    assert_eq!(rt; (status, sink.bytes()), (Status::Yes, ANSWER));
+    assert_eq!(rt; status, Status::Yes);
+    assert_eq!(rt; sink.bytes(), ANSWER);
 }
 
 /// The run with a source in pieces of `source.0` bytes, whose call `source.1` fails, and a sink likewise.
@@ -51,7 +52,8 @@ fn expect(
     let mut source = MemorySource::new(text(rt, alloc), source.0, only(rt, alloc, source.1));
     let mut sink = MemorySink::new(alloc, sink.0, only(rt, alloc, sink.1));
     let status = status_of(rt, alloc, &mut source, &mut sink);
-    assert_eq!(rt; (status, sink.bytes()), wanted);
+    assert_eq!(rt; status, wanted.0);
+    assert_eq!(rt; sink.bytes(), wanted.1);
 }
 
 #[test]
@@ -101,5 +103,6 @@ fn a_sink_that_takes_nothing_is_a_write_fault(rt: HostRuntime) {
     let mut source = SteadySource::new(text(&rt, rt.alloc()), 4_096);
     let mut sink = Full { faults: 0 };
     let status = status_of(&rt, rt.alloc(), &mut source, &mut sink);
-    assert_eq!(rt; (status, sink.faults), (Status::WriteFault, 1));
+    assert_eq!(rt; status, Status::WriteFault);
+    assert_eq!(rt; sink.faults, 1);
 }
