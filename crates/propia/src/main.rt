@@ -14,7 +14,8 @@ use std::{env, io};
 fn main(rt: HostRuntime) -> ExitCode {
     let mut source = StdinSource::new(rt.stdin());
     let mut sink = StdoutSink::new(rt.stdout());
-    ended(served(rt.alloc(), words(&rt), &mut source, &mut sink))
+    let words = words(&rt);
+    ended(served(rt.alloc(), &words, &mut source, &mut sink))
 }
 
 /// All words of the command line, the program's own name first.

@@ -1,6 +1,7 @@
 // From the words of the command line to the exit status of the process.
 ghost use Rattle.std.specs.Prelude.{◌≡◌, map, drop, [], IfOk, IfErr, IfSome, string_bytes};
 ghost use Rattle.std.specs.IoError.{error_kind};
+ghost use Rattle.std.specs.declared.io.ErrorKind.TheVariants.{InvalidData};
 ghost use Rattle.std.specs.Process.{exit_status};
 ghost use Rattle.pp_language.specs.Statuses.{code_of};
 ghost use Rattle.pp_propagation.specs.Replies.{AreBuiltWords, IsReply, IsUsage};
@@ -13,30 +14,27 @@ use std::io;
 use std::process::ExitCode;
 
 /// The words after the program's own name.
-fn after_name(mut words: Vec<String>) -> Vec<String>
-    ensures { result.items ≡ drop 1 words.items }
+fn after_name(words: &[String]) -> &[String]
+    ensures { result.now ≡ drop 1 words.now }
 {
-    if !words.is_empty() {
-        let _name = words.remove(0);
-    }
-    words
+    if words.is_empty() { words } else { &words[1..] }
 }
 
 /// Serves the words of the command line, the program's own name first. Words that are no text are no command line.
 pub fn served<S: Source, K: Sink>(
     alloc: Global,
-    words: io::Result<Vec<String>>,
+    words: &io::Result<Vec<String>>,
     source: &mut S,
     sink: &mut K,
 ) -> Status
     // The words that are served are those after the program's own name.
-    ensures handed { IfOk words (λ all. IfSome (S.left source.old) (λ text.
+    ensures handed { IfOk words.now (λ all. IfSome (S.left source.old) (λ text.
         Replied (IsReply AreBuiltWords (map string_bytes (drop 1 all.items)) text []) (K.taken sink.old) (K.taken sink.new) result)) }
-    ensures no_text { IfErr words (λ e. error_kind e ≡ io::ErrorKind::InvalidData →
+    ensures no_text { IfErr words.now (λ e. error_kind e ≡ InvalidData →
         Replied IsUsage (K.taken sink.old) (K.taken sink.new) result × (source.new ≡ source.old)) }
 {
     match words {
-        Ok(words) => alone(alloc, &after_name(words), source, sink),
+        Ok(words) => alone(alloc, after_name(words), source, sink),
         Err(error) if error.kind() == io::ErrorKind::InvalidData => alone(alloc, &[], source, sink),
         Err(_) => Status::Memory,
     }
