@@ -111,10 +111,10 @@ slot_right ss ts v l =
     let q : length ss + (v - length ss) ≡ v = omega arith in
     sym (ap (slot_at (ss ++ ts)) q) ∙ get_or-append-add ss ts (v - length ss) (Free None)
 
-free_slot : (st : Store) (ss : List Slot) (v : ℕ) → AreFree st ss → length st.slots ≤ v → (d : Option ℕ) × (slot_at (st.slots ++ ss) v ≡ Free d) × IsPlace st.domains d
+pub free_slot : (st : Store) (ss : List Slot) (v : ℕ) → AreFree st ss → length st.slots ≤ v → (d : Option ℕ) × (slot_at (st.slots ++ ss) v ≡ Free d) × IsPlace st.domains d
 free_slot st ss v f l = let h = f (v - length st.slots) in (h.0, slot_right st.slots ss v l ∙ h.1, h.2)
 
-linked_added : (st : Store) (ss : List Slot) → IsLinked st → AreFree st ss → IsLinked (with_slots st ss)
+pub linked_added : (st : Store) (ss : List Slot) → IsLinked st → AreFree st ss → IsLinked (with_slots st ss)
 linked_added st ss k f = record {
   forest = k.forest;
   variables = λ p v e. let h = k.variables p v e in omega (arith, length-append st.slots ss);

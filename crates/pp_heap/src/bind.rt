@@ -9,6 +9,7 @@ ghost use Rattle.pp_heap.specs.Stores.{store_of};
 ghost use Rattle.pp_heap.specs.Soundness.{IsGood, IsFixed, IsPlace};
 ghost use Rattle.pp_heap.specs.Outcomes.{IsFree, IsUnbound, IsChange, IsSame, IsAnswer, IsVerdict, HasOnly, IsMeeting, IsSettled, IsHeld, IsAllowed, IsCalm, IsLater};
 
+use crate::spans::Span;
 use crate::state::{Entry, Slot, State, Value};
 use pp_domain::Domain;
 use std::alloc::AllocError;
@@ -176,8 +177,14 @@ impl State {
         }
     }
 
-    /// Binds a free variable to what is no variable.
-    pub fn assign(&mut self, free: u32, value: Value) -> Result<bool, AllocError>
+    /// Binds a free variable to what is no variable. The work is a stack that is kept from call to call for its
+    /// memory alone.
+    pub fn assign(
+        &mut self,
+        free: u32,
+        value: Value,
+        work: &mut Vec<Span>,
+    ) -> Result<bool, AllocError>
         requires good { IsGood self.old }
         requires unbound { IsUnbound (store_of self.old) free }
         requires fixed { IsFixed self.old.heap.items value }
@@ -185,7 +192,7 @@ impl State {
         ensures answer { IfOk result (IsAnswer self.old self.new (variable free) (value_term self.old.heap.items value)) }
     {
         let domain = self.domain_place(free);
-        let allowed = self.may_be(free, domain, value)?;
+        let allowed = self.may_be(free, domain, value, work)?;
         if allowed {
             self.bind(free, domain, value)?;
         }
@@ -193,7 +200,13 @@ impl State {
     }
 
     /// Whether a free variable may be bound to what is no variable: its domain allows it, and it isn't in it.
-    fn may_be(&self, free: u32, domain: Option<u32>, value: Value) -> Result<bool, AllocError>
+    fn may_be(
+        &self,
+        free: u32,
+        domain: Option<u32>,
+        value: Value,
+        work: &mut Vec<Span>,
+    ) -> Result<bool, AllocError>
         requires good { IsGood self.now }
         requires free { IsFree (store_of self.now) free domain }
         requires fixed { IsFixed self.now.heap.items value }
@@ -203,7 +216,7 @@ impl State {
             Value::Int(value) => Ok(self.holds(domain, value)),
             Value::Compound(place) => match domain {
                 Some(_) => Ok(false),
-                None => Ok(!self.occurs(free, place)?),
+                None => Ok(!self.occurs(free, place, work)?),
             },
             _ => Ok(domain.is_none()),
         }

@@ -1,8 +1,8 @@
 -- The row with many free variables more.
-use Rattle.std.proofs.Common.{◌≡◌, ℕ, zero, suc, ◌+◌, ◌<◌, ◌≤◌, List, [], ◌∷◌, ◌++◌, length, map, replicate, Option, Some, None, refl, ap, ◌∙◌, subst, inl, inr, arith, length-append}
+use Rattle.std.proofs.Common.{◌≡◌, ℕ, zero, suc, ◌+◌, ◌<◌, ◌≤◌, List, [], ◌∷◌, ◌++◌, length, replicate, None, refl, ap, ◌∙◌, subst, inl, inr, arith, length-append}
 use Rattle.std.specs.Prelude.{nat_eq}
 use Rattle.std.proofs.lemmas.List.{length-replicate}
-use Rattle.pp_algebra.specs.Terms.{Tree, variable, Trees, none, more, put_all, variables, variables_all, join}
+use Rattle.pp_algebra.specs.Terms.{variable, Trees, none, more, put_all, variables, variables_all, join}
 use Rattle.pp_algebra.specs.Rows.{Domains, Row}
 use Rattle.pp_algebra.specs.Covers.{IsIn}
 use Rattle.pp_algebra.specs.Canon.{place, firsts, canon}
@@ -23,7 +23,7 @@ use Rattle.pp_unify.proofs.Verdicts.{row_of}
 use Rattle.pp_unify.proofs.Adding.{canon_added, from-push, from-below, map-agree}
 
 -- a slot that is free says what no slot says
-free_slots_more : (ss : List Slot) (k v : ℕ) → slot_at (ss ++ replicate k (slots.Free None)) v ≡ slot_at ss v
+pub free_slots_more : (ss : List Slot) (k v : ℕ) → slot_at (ss ++ replicate k (slots.Free None)) v ≡ slot_at ss v
 free_slots_more [] zero v = refl
 free_slots_more [] (suc k) zero = refl
 free_slots_more [] (suc k) (suc v) = free_slots_more [] k v
@@ -64,17 +64,22 @@ module _ (es : List Entry) (st : Store) (k : IsSound es st) (l : IsLinked st) wh
       ∙ canon_added ts (length st.slots + j) domain_now domain_now None (many_below j) (λ w h. refl) (ap (slot_domain st.domains) (at_past st.slots (length st.slots + j) (omega arith)))
       ∙ ap (λ r. with_new r None) (row_many j)
 
+-- a store that has so many free variables more and is otherwise alike
+pub row_many_at : (es : List Entry) (st : Store) (fs : List Entry) (new : Store) (k : ℕ) → IsSound es st → IsLinked st → length new.slots ≡ length st.slots + k → ((v : ℕ) → made fs new v ≡ made es st v) → ((v : ℕ) → slot_at new.slots v ≡ slot_at st.slots v) → new.domains ≡ st.domains → row_at fs new ≡ with_many (row_at es st) k
+row_many_at es st fs new k i l longer same slots d =
+    let m = made es st in
+    let m' = made fs new in
+    let columns : put_all m' (variables_from 0 (length new.slots)) ≡ put_all m (variables_from 0 (length st.slots + k)) =
+    ap (λ x. put_all m' (variables_from 0 x)) longer ∙ put_all-agree m' m (variables_from 0 (length st.slots + k)) (λ v j. same v) in
+    let E : Domains ℕ = λ w. slot_domain new.domains (slot_at new.slots w) in
+    let D : Domains ℕ = λ w. slot_domain st.domains (slot_at st.slots w) in
+    let alike : (w : ℕ) → E w ≡ D w = λ w. ap (slot_domain new.domains) (slots w) ∙ ap (λ ds. slot_domain ds (slot_at st.slots w)) d in
+    ap (λ us. canon nat_eq (record { columns = us; domains = E })) columns
+    ∙ canon_alike (put_all m (variables_from 0 (length st.slots + k))) E D alike
+    ∙ row_many es st i l k
+
 pub many_row : (old new : State) (k : ℕ) → IsGood old → new.slots.items ≡ old.slots.items ++ replicate k (slots.Free None) → new.domains.items ≡ old.domains.items → ((v : ℕ) → solution new v ≡ solution old v) → row_of new ≡ with_many (row_of old) k
 unfolding solution
 many_row old new k g e d same =
-    let m = made (entries_of old) (store_of old) in
-    let m' = made (entries_of new) (store_of new) in
     let longer : length new.slots.items ≡ length old.slots.items + k = ap length e ∙ length-append old.slots.items (replicate k (slots.Free None)) ∙ ap (λ x. length old.slots.items + x) (length-replicate k (slots.Free None)) in
-    let columns : put_all m' (variables_from 0 (length new.slots.items)) ≡ put_all m (variables_from 0 (length old.slots.items + k)) =
-    ap (λ x. put_all m' (variables_from 0 x)) longer ∙ put_all-agree m' m (variables_from 0 (length old.slots.items + k)) (λ v i. same v) in
-    let E : Domains ℕ = λ w. slot_domain new.domains.items (slot_at new.slots.items w) in
-    let D : Domains ℕ = λ w. slot_domain old.domains.items (slot_at old.slots.items w) in
-    let alike : (w : ℕ) → E w ≡ D w = λ w. ap (λ ss. slot_domain new.domains.items (slot_at ss w)) e ∙ ap (slot_domain new.domains.items) (free_slots_more old.slots.items k w) ∙ ap (λ ds. slot_domain ds (slot_at old.slots.items w)) d in
-    ap (λ us. canon nat_eq (record { columns = us; domains = E })) columns
-    ∙ canon_alike (put_all m (variables_from 0 (length old.slots.items + k))) E D alike
-    ∙ row_many (entries_of old) (store_of old) g.sound g.linked k
+    row_many_at (entries_of old) (store_of old) (entries_of new) (store_of new) k g.sound g.linked longer same (λ w. ap (λ ss. slot_at ss w) e ∙ free_slots_more old.slots.items k w) d

@@ -50,7 +50,7 @@ last_compound heap cs first at f k e h =
     go [] d = absurd (cc)
     go (d ∷ ds) e = subst (λ x. IsCompound (renamed (λ v. first + v) x)) (sym e) tt
 
-cell_in : (cs : List Cell) (p v : ℕ) → cell_at cs p ≡ Var v → IsIn v (variables_among cs)
+pub cell_in : (cs : List Cell) (p v : ℕ) → cell_at cs p ≡ Var v → IsIn v (variables_among cs)
 cell_in [] p v e = absurd (cc)
 cell_in (c ∷ cs) zero v e = IsIn-left v (variables_in c) (variables_among cs) (subst (λ d. IsIn v (variables_in d)) (sym e) (inl refl))
 cell_in (c ∷ cs) (suc p) v e = IsIn-right v (variables_in c) (variables_among cs) (cell_in cs p v e)

@@ -3,7 +3,7 @@ use Rattle.std.proofs.Common.{◌≡◌, ℕ, zero, suc, ◌+◌, ◌<◌, pos, 
 use Rattle.std.proofs.lemmas.List.{get_or-drop}
 use Rattle.pp_row.specs.declared.cell.Cell.{Cell}
 use Rattle.pp_row.specs.declared.cell.Cell.TheVariants.{Int, Atom, Compound, Var}
-use Rattle.pp_algebra.specs.Terms.{Tree, int, node, variable, Trees, none, more, variables}
+use Rattle.pp_algebra.specs.Terms.{Tree, int, node, variable, Trees, none, more, put, put_all, variables}
 use Rattle.pp_algebra.specs.Covers.{IsIn}
 use Rattle.pp_algebra.specs.Least.{first, rest}
 use Rattle.pp_algebra.proofs.Antisym.{IsIn-either}
@@ -63,3 +63,6 @@ named (variable v) (Var w) e h = absurd h
 -- at a compound's cell begins a term with a name
 pub compound_named : (heap : List Cell) (p : ℕ) → IsForest heap → p < length heap → IsCompound (cell_at heap p) → IsNamed (term_at heap p)
 compound_named heap p f l h = named (term_at heap p) (cell_at heap p) (next heap p (Int (pos 0)) f l).cell h
+
+pub named_put : (s : ℕ → Tree ℕ) (t : Tree ℕ) → IsNamed t → IsNamed (put s t)
+named_put s t n = record { name = n.name; arguments = put_all s n.arguments; is = ap (put s) n.is }

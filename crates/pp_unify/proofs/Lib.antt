@@ -19,5 +19,12 @@ pub mod Resolving
 pub mod Givens
 pub mod InPlace
 pub mod Turns
+pub mod Decided
+pub mod Wider
+pub mod Whole
+pub mod Members
 pub mod Overs
+pub mod Widths
 pub mod HeadSteps
+pub mod Stepping
+pub mod Walking

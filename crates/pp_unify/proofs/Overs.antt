@@ -1,7 +1,7 @@
 -- Terms whose variables are there.
-use Rattle.std.proofs.Common.{◌≡◌, ℕ, ◌+◌, ◌<◌, List, [], ◌∷◌, All, sym, subst, inl, inr, arith}
+use Rattle.std.proofs.Common.{◌≡◌, ℕ, ◌+◌, ◌<◌, List, [], ◌∷◌, All, ap, sym, ◌∙◌, subst, inl, inr, arith}
 use Rattle.std.proofs.lemmas.List.Elements.{All-head, All-tail}
-use Rattle.pp_algebra.specs.Terms.{Tree, variable, variables, count}
+use Rattle.pp_algebra.specs.Terms.{Tree, variable, variables, variables_all, count}
 use Rattle.pp_algebra.specs.Rows.{Row}
 use Rattle.pp_algebra.specs.Covers.{IsIn}
 use Rattle.pp_algebra.proofs.Antisym.{IsIn-either}
@@ -13,7 +13,11 @@ use Rattle.pp_row.specs.Cells.{variables_among}
 use Rattle.pp_unify.specs.States.{IsOver}
 use Rattle.pp_algebra.specs.Numbered.{counted_from}
 use Rattle.pp_unify.specs.Tops.{IsThere}
-use Rattle.pp_unify.proofs.Among.{comes_from}
+use Rattle.pp_row.specs.Reading.{IsForest, forest}
+use Rattle.pp_row.proofs.Piece.{cells_from}
+use Rattle.pp_unify.specs.Forests.{counted_all, AreOver}
+use Rattle.pp_unify.proofs.Among.{comes_from, comes_from_all}
+use Rattle.pp_unify.proofs.Decided.{among_all}
 use Rattle.pp_unify.proofs.Grown.{counted-zero}
 
 cell_there : (first n : ℕ) (c : Cell) (v : ℕ) → IsThere first n c → IsIn v (variables_in c) → first + v < n
@@ -42,3 +46,17 @@ over_cells r t cs first n e k h w i =
 
 pub over_zero : (r : Row) (t : Tree ℕ) → IsOver r (counted_from 0 t) → IsOver r t
 over_zero r t h = subst (IsOver r) (counted-zero t) h
+
+-- the same of terms one behind the other
+pub forest_there : (first n : ℕ) (cs : List Cell) → IsForest cs → All (IsThere first n) cs → (v : ℕ) → IsIn v (variables_all (forest cs)) → first + v < n
+forest_there first n cs f h v i = all_among first n cs v h (subst (IsIn v) (sym (ap variables_among (sym (cells_from cs 0 f)) ∙ among_all (forest cs))) i)
+
+pub forest_over : (r : Row) (cs : List Cell) (first n : ℕ) → IsForest cs → n ≡ count r.columns → All (IsThere first n) cs → AreOver r (counted_all first (forest cs))
+forest_over r cs first n f k h w i =
+    let c = comes_from_all (λ v. variable (first + v)) (forest cs) w i in
+    let l = forest_there first n cs f h c.0 c.1 in
+    is w c.0 l c.2
+  where
+    is : (w v : ℕ) → first + v < n → IsIn w (variables (variable (first + v))) → w < count r.columns
+    is w v l (inl q) = omega (arith, l, q, k)
+    is w v l (inr q) = absurd q

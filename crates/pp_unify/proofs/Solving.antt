@@ -1,12 +1,12 @@
--- A store that follows another one under an item has the most general row that meets the item; where the item is excluded, no row meets it.
-use Rattle.std.proofs.Common.{◌≡◌, ℕ, ◌<◌, true, List, [], ◌∷◌, length, Option, Some, None, refl, ap, sym, ◌∙◌, subst, inl, inr}
+-- A store that follows another one under items has the most general row that meets the items; where they are excluded, no row meets them.
+use Rattle.std.proofs.Common.{◌≡◌, ℕ, ◌<◌, true, List, [], ◌∷◌, length, map, Option, Some, None, refl, ap, sym, ◌∙◌, subst, inl, inr}
 use Rattle.std.specs.Prelude.{nat_eq, ◌↔◌}
 use Rattle.std.proofs.lemmas.List.{get_or_past}
 use Rattle.pp_algebra.specs.Terms.{Tree, variable, put, put_all, variables}
 use Rattle.pp_algebra.specs.Rows.{Domains, Row, domain_at, pattern_of, IsRow}
 use Rattle.pp_algebra.specs.Covers.{IsIn, MayGo}
 use Rattle.pp_algebra.specs.Canon.{has, place}
-use Rattle.pp_algebra.specs.Solve.{Item, equation, membership, put_item, Holds, IsSolved, HasNone}
+use Rattle.pp_algebra.specs.Solve.{Item, equation, membership, put_item, Holds, AllHold, IsSolved, HasNone}
 use Rattle.pp_algebra.proofs.Put.{put-put, put_all-put_all, put_all-variable}
 use Rattle.pp_algebra.proofs.Antisym.{put-agree, put_all-agree}
 use Rattle.pp_algebra.proofs.Order.{may_stay}
@@ -29,6 +29,10 @@ use Rattle.pp_unify.proofs.Present.{values, names, number, named, value_now, has
 abbrev pub ItemBelow : ℕ → Item ℕ → Type 0
 ItemBelow n (equation a b) = IsBelow n a × IsBelow n b
 ItemBelow n (membership t d) = IsBelow n t
+
+abbrev pub AllBelow : ℕ → List (Item ℕ) → Type 0
+AllBelow n [] = Unit {0}
+AllBelow n (i ∷ is) = ItemBelow n i × AllBelow n is
 
 wide_row : (q : Row) → IsRow q → AllWide (domain_at q.domains)
 wide_row q r v = wide_at q.domains v r.wide
@@ -99,15 +103,23 @@ module _ (es : List Entry) (st : Store) (k : IsSound es st) (l : IsLinked st) wh
     holds_out (equation a b) o h = sym (same_term a o.0) ∙ h ∙ same_term b o.1
     holds_out (membership t d) o h = subst (MayGo ds (Some d)) (same_term t o) h
 
-  pub excluded : (item : Item ℕ) → ItemBelow (length st.slots) item → ((ds : Domains ℕ) (s : ℕ → Tree ℕ) → AllWide ds → Agrees st ds s → Holds ds s item → ⊥) → HasNone (pattern_of row) (put_item (value_in row) item ∷ [])
-  excluded item o h q r m = h (domain_at q.domains) (through m.by) (wide_row q r) (through_agrees (domain_at q.domains) m.by m.domains) (holds_out (domain_at q.domains) m.by (through m.by) (through_value m.by) item o m.holds.0)
+    all_in : (items : List (Item ℕ)) → AllBelow (length st.slots) items → AllHold ds s items → AllHold ds by (map (put_item (value_in row)) items)
+    all_in [] o h = tt
+    all_in (i ∷ is) o h = (holds_in i o.0 h.0, all_in is o.1 h.1)
 
-module _ (es fs : List Entry) (old new : Store) (k : IsSound es old) (l : IsLinked old) (i : IsSound fs new) (j : IsLinked new) (item : Item ℕ) where
+    all_out : (items : List (Item ℕ)) → AllBelow (length st.slots) items → AllHold ds by (map (put_item (value_in row)) items) → AllHold ds s items
+    all_out [] o h = tt
+    all_out (i ∷ is) o h = (holds_out i o.0 h.0, all_out is o.1 h.1)
+
+  pub excluded : (items : List (Item ℕ)) → AllBelow (length st.slots) items → ((ds : Domains ℕ) (s : ℕ → Tree ℕ) → AllWide ds → Agrees st ds s → AllHold ds s items → ⊥) → HasNone (pattern_of row) (map (put_item (value_in row)) items)
+  excluded items o h q r m = h (domain_at q.domains) (through m.by) (wide_row q r) (through_agrees (domain_at q.domains) m.by m.domains) (all_out (domain_at q.domains) m.by (through m.by) (through_value m.by) items o m.holds)
+
+module _ (es fs : List Entry) (old new : Store) (k : IsSound es old) (l : IsLinked old) (i : IsSound fs new) (j : IsLinked new) (items : List (Item ℕ)) where
   pub followed :
       length new.slots ≡ length old.slots
-      → ItemBelow (length old.slots) item
-      → ((ds : Domains ℕ) (s : ℕ → Tree ℕ) → AllWide ds → Agrees new ds s ↔ (Agrees old ds s × Holds ds s item))
-      → IsSolved (pattern_of (row_at es old)) (put_item (value_in (row_at es old)) item ∷ []) (row_at fs new)
+      → AllBelow (length old.slots) items
+      → ((ds : Domains ℕ) (s : ℕ → Tree ℕ) → AllWide ds → Agrees new ds s ↔ (Agrees old ds s × AllHold ds s items))
+      → IsSolved (pattern_of (row_at es old)) (map (put_item (value_in (row_at es old))) items) (row_at fs new)
   followed n o f =
       let r = row_now fs new j in
       let ds = domain_at (row_at fs new).domains in
@@ -121,12 +133,12 @@ module _ (es fs : List Entry) (old new : Store) (k : IsSound es old) (l : IsLink
           by = λ v. put s (named es old v);
           columns = back_columns es old k l s most ∙ ap (λ m. put_all s (variables_from 0 m)) (sym n) ∙ through_columns fs new i j variable ∙ put_all-variable (row_at fs new).columns;
           domains = back_goes es old k l ds s b.0;
-          holds = (holds_in es old k l ds (λ v. put s (named es old v)) s (back_value es old k l s most) item o b.1, tt);
+          holds = all_in es old k l ds (λ v. put s (named es old v)) s (back_value es old k l s most) items o b.1;
         };
         most = λ q w m.
             let es' = domain_at q.domains in
             let t = through es old k l m.by in
-            let c = (f es' t (wide_row q w)).1 (through_agrees es old k l es' m.by m.domains, holds_out es old k l es' m.by t (through_value es old k l m.by) item o m.holds.0) in
+            let c = (f es' t (wide_row q w)).1 (through_agrees es old k l es' m.by m.domains, all_out es old k l es' m.by t (through_value es old k l m.by) items o m.holds) in
             record {
               by = λ v. put t (named fs new v);
               columns = back_columns fs new i j t (through_made fs new i j es' t c) ∙ ap (λ x. put_all t (variables_from 0 x)) n ∙ through_columns es old k l m.by ∙ m.columns;

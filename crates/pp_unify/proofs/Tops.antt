@@ -38,11 +38,11 @@ module _ (t : Tree ℕ) (cs : List Cell) (e : cs ≡ cells_of t) (h : IsTerm t) 
 pub top_named : (slots : List Slot) (s : ℕ → Tree ℕ) (t : Tree ℕ) (c : Value) → IsNamed t → IsNode c → IsTop slots (put s t) c
 top_named slots s t c n h = subst (λ u. IsTop slots (put s u) c) (sym n.is) h
 
--- a variable by its value
-pub top_value : (s : State) (v : ℕ) (c : Value) → IsGood s → IsValue (store_of s) (variable v) c → IsTop s.slots.items (solution s v) c
-top_value s v (Variable x) g h = subst (λ t. IsTop s.slots.items t (Variable x)) (sym (h.same (own_domains (store_of s)) (solution s) (solution_agrees s g) ∙ solution_free s x h.now.0 g h.now.1.free)) (refl, h.now.1.within)
-top_value s v (Int n) g h = subst (λ t. IsTop s.slots.items t (Int n)) (sym (h.same (own_domains (store_of s)) (solution s) (solution_agrees s g))) (refl, h.now)
-top_value s v (Atom a) g h = subst (λ t. IsTop s.slots.items t (Atom a)) (sym (h.same (own_domains (store_of s)) (solution s) (solution_agrees s g))) tt
-top_value s v (Compound p) g h =
-    subst (λ t. IsTop s.slots.items t (Compound p)) (sym (h.same (own_domains (store_of s)) (solution s) (solution_agrees s g)))
+-- a term by its value
+pub top_value : (s : State) (t : Tree ℕ) (c : Value) → IsGood s → IsValue (store_of s) t c → IsTop s.slots.items (put (solution s) t) c
+top_value s t (Variable x) g h = subst (λ u. IsTop s.slots.items u (Variable x)) (sym (h.same (own_domains (store_of s)) (solution s) (solution_agrees s g) ∙ solution_free s x h.now.0 g h.now.1.free)) (refl, h.now.1.within)
+top_value s t (Int n) g h = subst (λ u. IsTop s.slots.items u (Int n)) (sym (h.same (own_domains (store_of s)) (solution s) (solution_agrees s g))) (refl, h.now)
+top_value s t (Atom a) g h = subst (λ u. IsTop s.slots.items u (Atom a)) (sym (h.same (own_domains (store_of s)) (solution s) (solution_agrees s g))) tt
+top_value s t (Compound p) g h =
+    subst (λ u. IsTop s.slots.items u (Compound p)) (sym (h.same (own_domains (store_of s)) (solution s) (solution_agrees s g)))
     (top_named s.slots.items (solution s) (term_at s.heap.items p) (Compound p) (compound_named s.heap.items p g.linked.forest h.now.0 h.now.1) tt)

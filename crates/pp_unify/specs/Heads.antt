@@ -1,9 +1,9 @@
--- A clause's head against a term of the heap, cell by cell.
-use Rattle.std.specs.Prelude.{◌≡◌, ℕ, ◌+◌, ◌<◌, ◌≤◌, ◌↔◌, List, length, All, Option, Some, None}
+-- A clause's head against terms that are to be equal to it, cell by cell.
+use Rattle.std.specs.Prelude.{◌≡◌, ℕ, ◌+◌, ◌<◌, ◌≤◌, ◌↔◌, Bool, true, false, List, length, All, Option, Some, None}
 use Rattle.pp_row.specs.declared.cell.Cell.{Cell}
 use Rattle.pp_row.specs.declared.cell.Cell.TheVariants as cells
 use Rattle.pp_row.specs.Reading.{IsForest, from}
-use Rattle.pp_algebra.specs.Terms.{Tree, Trees, put, put_all, count}
+use Rattle.pp_algebra.specs.Terms.{Tree, Trees, variable, put_all, count, join}
 use Rattle.pp_algebra.specs.Rows.{Domains}
 use Rattle.pp_algebra.specs.Least.{rest}
 use Rattle.pp_algebra.specs.Solve.{equation}
@@ -13,11 +13,19 @@ use Rattle.pp_heap.specs.declared.state.State.{State}
 use Rattle.pp_heap.specs.Values.{cell_at, term_at}
 use Rattle.pp_heap.specs.Stores.{Store, store_of}
 use Rattle.pp_heap.specs.Soundness.{IsCompound}
-use Rattle.pp_heap.specs.Outcomes.{IsValue}
+use Rattle.pp_heap.specs.Outcomes.{IsValue, AreMore}
 use Rattle.pp_heap.specs.declared.state.Value.{Value}
-use Rattle.pp_heap.specs.Agreement.{Agrees, AllWide, Excludes}
+use Rattle.pp_heap.specs.Agreement.{Agrees, AllWide, Follows, Excludes}
 use Rattle.pp_heap.specs.Spans.{IsSpan, terms_of}
 use Rattle.pp_algebra.specs.Numbered.{counted_from}
+use Rattle.pp_unify.specs.Joining.{IsWider}
+use Rattle.pp_unify.specs.Counting.{counted}
+
+abbrev pub IsVariable : Cell → Type 0
+IsVariable (cells.Int n) = ⊥
+IsVariable (cells.Atom a) = ⊥
+IsVariable (cells.Compound f k) = ⊥
+IsVariable (cells.Var v) = Unit {0}
 
 -- whole terms whose variables, counted from a first one, have slots
 pub record IsHead (slots : List Slot) (first : ℕ) (head : List Cell) : Type 0 where
@@ -35,17 +43,35 @@ pub record IsLeaf (st : Store) (first : ℕ) (head : List Cell) (at : ℕ) (c : 
   pub plain : IsCompound (cell_at head at) → ⊥
   pub value : IsValue st (counted_from first (term_at head at)) c
 
--- s after the numbers of variables were counted from a first one
-abbrev pub counted : ℕ → (ℕ → Tree ℕ) → ℕ → Tree ℕ
-counted first s v = s (first + v)
+-- a variable is a term now, and is there
+pub record MeetsVariable (old new : State) (t : Tree ℕ) (x : ℕ) : Type 0 where
+  pub more : length old.slots.items ≤ length new.slots.items
+  pub bounded : (n : ℕ) → length old.slots.items ≤ n → x < n → length new.slots.items ≤ n
+  pub heap : new.heap.items ≡ old.heap.items
+  pub follows : Follows old new (equation t (variable x))
 
--- the head's cells before `next` are past: the equation of t and the term at `at`, and of the terms before and those after it, is now that of the work and the terms from `next` on
-pub record IsPast (old new : State) (before : Trees ℕ) (now : List Span) (t : Tree ℕ) (first : ℕ) (head : List Cell) (at next : ℕ) : Type 0 where
+abbrev pub HasMetVariable : State → State → Tree ℕ → ℕ → Bool → Type 0
+HasMetVariable old new t x true = MeetsVariable old new t x
+HasMetVariable old new t x false = Excludes old (equation t (variable x))
+
+-- a term is the head's term at this place now
+pub record IsStepped (old new : State) (t : Tree ℕ) (first : ℕ) (head : List Cell) (at : ℕ) : Type 0 where
+  pub wider : IsWider old new first head
+  pub heap : AreMore old.heap.items new.heap.items
+  pub follows : Follows old new (equation t (counted_from first (term_at head at)))
+
+abbrev pub HasStepped : State → State → Tree ℕ → ℕ → List Cell → ℕ → Bool → Type 0
+HasStepped old new t first head at true = IsStepped old new t first head at
+HasStepped old new t first head at false = Excludes old (equation t (counted_from first (term_at head at)))
+
+-- the terms ts, and others after them, are to be the head's terms from `at` on; that is now so of the work and the head's terms from `next` on
+pub record IsTurned (old new : State) (ts : Trees ℕ) (now : List Span) (first : ℕ) (head : List Cell) (at next : ℕ) : Type 0 where
   pub later : at < next
+  pub wider : IsWider old new first head
   pub all : All (IsSpan new.heap.items) now
-  pub counts : count (terms_of new.heap.items now) + count (rest (from head at)) ≡ count before + count (from head next)
-  pub same : (ds : Domains ℕ) (s : ℕ → Tree ℕ) → AllWide ds → (Agrees (store_of new) ds s × (put_all s (terms_of new.heap.items now) ≡ put_all (counted first s) (from head next))) ↔ (Agrees (store_of old) ds s × ((put s t ≡ put (counted first s) (term_at head at)) × (put_all s before ≡ put_all (counted first s) (rest (from head at)))))
+  pub counts : count (terms_of new.heap.items now) + count (from head at) ≡ count ts + count (from head next)
+  pub same : (after : Trees ℕ) (ds : Domains ℕ) (s : ℕ → Tree ℕ) → AllWide ds → (Agrees (store_of new) ds s × (put_all s (join (terms_of new.heap.items now) after) ≡ put_all (counted first s) (from head next))) ↔ (Agrees (store_of old) ds s × (put_all s (join ts after) ≡ put_all (counted first s) (from head at)))
 
-abbrev pub HasPassed : State → State → Trees ℕ → List Span → Tree ℕ → ℕ → List Cell → ℕ → Option ℕ → Type 0
-HasPassed old new before now t first head at None = Excludes old (equation t (counted_from first (term_at head at)))
-HasPassed old new before now t first head at (Some next) = IsPast old new before now t first head at next
+abbrev pub HasTurned : State → State → Trees ℕ → List Span → ℕ → List Cell → ℕ → Option ℕ → Type 0
+HasTurned old new ts now first head at None = (after : Trees ℕ) (ds : Domains ℕ) (s : ℕ → Tree ℕ) → AllWide ds → Agrees (store_of old) ds s → put_all s (join ts after) ≡ put_all (counted first s) (from head at) → ⊥
+HasTurned old new ts now first head at (Some next) = IsTurned old new ts now first head at next

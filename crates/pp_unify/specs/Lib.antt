@@ -4,4 +4,7 @@ pub mod States
 pub mod Writing
 pub mod Tops
 pub mod Laws
+pub mod Counting
 pub mod Heads
+pub mod Forests
+pub mod Joining

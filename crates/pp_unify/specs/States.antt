@@ -1,7 +1,7 @@
 -- Bindings as the list of kept states, each the row of all variables; the present one is the last.
-use Rattle.std.specs.Prelude.{◌≡◌, ℕ, zero, suc, pos, nat_eq, ◌+◌, ◌<◌, Bool, true, false, List, [], ◌∷◌, ◌++◌, length, Option, None}
+use Rattle.std.specs.Prelude.{◌≡◌, ℕ, zero, suc, nat_eq, ◌<◌, Bool, true, false, List, [], ◌∷◌, ◌++◌, length, Option, None}
 use Rattle.std.specs.Coded.{Coded, coded_list}
-use Rattle.pp_algebra.specs.Terms.{Tree, int, node, variable, Trees, none, more, put, put_all, variables, count, join}
+use Rattle.pp_algebra.specs.Terms.{Tree, int, node, variable, none, more, put, put_all, variables, count, join}
 use Rattle.pp_algebra.specs.Rows.{Domain, Pattern, Row, pattern_of, domain_at}
 use Rattle.pp_algebra.specs.Covers.{IsIn}
 use Rattle.pp_algebra.specs.Canon.{canon}

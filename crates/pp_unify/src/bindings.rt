@@ -1,8 +1,13 @@
 //! Bindings, as a caller sees them.
-ghost use Rattle.std.specs.Prelude.{◌≡◌, suc, ◌<◌, [], ◌∷◌, length, take, IfOk, All, option_map};
+ghost use Rattle.std.specs.Prelude.{◌≡◌, ℕ, suc, ◌<◌, [], ◌∷◌, length, take, IfOk, All, option_map};
 ghost use Rattle.pp_algebra.specs.Rows.{IsWide, IsRow};
 ghost use Rattle.pp_algebra.specs.Solve.{equation, membership};
-ghost use Rattle.pp_algebra.specs.Terms.{count};
+ghost use Rattle.pp_algebra.specs.Terms.{int, count, variables_all};
+ghost use Rattle.pp_algebra.specs.Covers.{IsIn};
+ghost use Rattle.pp_algebra.specs.Members.{IsInteger};
+ghost use Rattle.pp_row.specs.Reading.{IsForest, forest};
+ghost use Rattle.pp_heap.specs.Values.{term_at};
+ghost use Rattle.pp_unify.specs.Forests.{counted_all, AreOver, pairs, AreDecided};
 ghost use Rattle.pp_domain.specs.Sets.{set_of};
 ghost use Rattle.pp_algebra.specs.Givens.{given};
 ghost use Rattle.pp_row.specs.Columns.{set_by};
@@ -10,11 +15,12 @@ ghost use Rattle.pp_row.specs.Givens.{given_of};
 ghost use Rattle.pp_unify.specs.States.{no_columns, present, value_in, in_place, IsOver, with_new, with_many, with_value, IsLonger, IsSolvedBy, domain_in, row_in};
 ghost use Rattle.pp_algebra.specs.Numbered.{counted_from};
 
-use crate::{terms, unify};
+use crate::pair::Scratch;
+use crate::{join, terms, unify};
 use indexmap::IndexSet;
 use pp_domain::Domain;
-use pp_heap::{State, Value};
-use pp_row::{Given, Row, Term};
+use pp_heap::{Span, State, Value};
+use pp_row::{Cell, Given, Row, Term};
 use std::alloc::{AllocError, Global};
 use std::marker::Model;
 
@@ -42,6 +48,8 @@ impl Model for Mark {
 #[derive(Debug, Drop)]
 pub struct Bindings {
     state: State,
+    work: Vec<Span>,
+    scratch: Scratch,
 }
 
 impl Model for Bindings {
@@ -66,6 +74,8 @@ impl Bindings {
     {
         Bindings {
             state: State::new(alloc),
+            work: Vec::new(alloc),
+            scratch: Scratch::new(alloc),
         }
     }
 
@@ -144,7 +154,7 @@ impl Bindings {
         ensures solved { IfOk result (λ b'. IsSolvedBy (present self.old) (equation (in_place (present self.old) (counted_from a_first a.now)) (in_place (present self.old) (counted_from b_first b.now))) b' (present self.new)) }
         ensures kept { IsLonger self.old self.new }
     {
-        unify::unify_terms(&mut self.state, a, a_first, b, b_first)
+        self.unify_spans(a.cells(), a_first, b.cells(), b_first)
     }
 
     /// Makes two variables equal, and answers false where nothing does.
@@ -154,7 +164,7 @@ impl Bindings {
         ensures solved { IfOk result (λ b'. IsSolvedBy (present self.old) (equation (value_in (present self.old) a) (value_in (present self.old) b)) b' (present self.new)) }
         ensures kept { IsLonger self.old self.new }
     {
-        unify::unify_variables(&mut self.state, a, b)
+        unify::unify_variables(&mut self.state, &mut self.scratch, a, b)
     }
 
     /// Makes a variable be in a domain, and answers false where nothing does.
@@ -166,9 +176,102 @@ impl Bindings {
         self.state.narrow(variable, domain)
     }
 
+    /// Adds `amount` variables of any domain, and makes a goal's terms and a clause's head over these variables
+    /// equal; false where nothing does. The goal's variables are counted from `first`. Both are walked where they
+    /// stand: only the compounds that a variable is bound to are copied.
+    pub fn enter(
+        &mut self,
+        goal: &[Cell],
+        first: u32,
+        head: &[Cell],
+        amount: u32,
+    ) -> Result<bool, AllocError>
+        requires goal_whole { IsForest goal.now }
+        requires head_whole { IsForest head.now }
+        requires width { count (forest head.now) ≡ count (forest goal.now) }
+        requires goal { AreOver (present self.old) (counted_all first (forest goal.now)) }
+        requires head { (v : ℕ) → IsIn v (variables_all (forest head.now)) → v < amount }
+        ensures entered { IfOk result (λ b. AreDecided (with_many (present self.old) amount) (pairs (count (present self.old).columns) (forest head.now) first (forest goal.now)) b (present self.new)) }
+        ensures kept { IsLonger self.old self.new }
+    {
+        join::enter(
+            &mut self.state,
+            &mut self.scratch,
+            &mut self.work,
+            goal,
+            first,
+            head,
+            amount,
+        )
+    }
+
+    /// Makes two lists of terms equal, pairwise, each with the numbers of its variables counted from a first one;
+    /// false where nothing does. Both are walked where they stand.
+    pub fn unify_spans(
+        &mut self,
+        a: &[Cell],
+        a_first: u32,
+        b: &[Cell],
+        b_first: u32,
+    ) -> Result<bool, AllocError>
+        requires left_whole { IsForest a.now }
+        requires right_whole { IsForest b.now }
+        requires width { count (forest b.now) ≡ count (forest a.now) }
+        requires left { AreOver (present self.old) (counted_all a_first (forest a.now)) }
+        requires right { AreOver (present self.old) (counted_all b_first (forest b.now)) }
+        ensures decided { IfOk result (λ b'. AreDecided (present self.old) (pairs a_first (forest a.now) b_first (forest b.now)) b' (present self.new)) }
+        ensures kept { IsLonger self.old self.new }
+    {
+        join::unify_lists(
+            &mut self.state,
+            &mut self.scratch,
+            &mut self.work,
+            a,
+            a_first,
+            b,
+            b_first,
+        )
+    }
+
+    /// Makes the term that begins at this cell be in a domain, and answers false where nothing does.
+    pub fn narrow_at(
+        &mut self,
+        cells: &[Cell],
+        at: usize,
+        first: u32,
+        domain: &Domain,
+    ) -> Result<bool, AllocError>
+        requires whole { IsForest cells.now }
+        requires within { at < length cells.now }
+        requires over { AreOver (present self.old) (counted_all first (forest cells.now)) }
+        ensures solved { IfOk result (λ b. IsSolvedBy (present self.old) (membership (in_place (present self.old) (counted_from first (term_at cells.now at))) (set_of domain.now)) b (present self.new)) }
+        ensures kept { IsLonger self.old self.new }
+    {
+        terms::narrow(&mut self.state, cells, at, first, domain)
+    }
+
+    /// Makes the term that begins at this cell an integer, and answers false where nothing does.
+    pub fn equate_at(
+        &mut self,
+        cells: &[Cell],
+        at: usize,
+        first: u32,
+        value: i64,
+    ) -> Result<bool, AllocError>
+        requires whole { IsForest cells.now }
+        requires within { at < length cells.now }
+        requires over { AreOver (present self.old) (counted_all first (forest cells.now)) }
+        requires integer { IsInteger value }
+        ensures solved { IfOk result (λ b. IsSolvedBy (present self.old) (equation (in_place (present self.old) (counted_from first (term_at cells.now at))) (int value)) b (present self.new)) }
+        ensures kept { IsLonger self.old self.new }
+    {
+        terms::equate(&mut self.state, &mut self.scratch, cells, at, first, value)
+    }
+
     /// The present state's place.
     pub fn mark(&self) -> Mark
-        ensures { suc result ≡ length self.now }
+        ensures place { suc result ≡ length self.now }
+        ensures row { IsRow (present self.now) }
     {
         Mark {
             place: self.state.trail.len(),
@@ -188,7 +291,18 @@ impl Bindings {
         requires over { IsOver (present self.now) term.now }
         ensures { given_of result ≡ given (present self.now).domains (in_place (present self.now) term.now) }
     {
-        match terms::top(&self.state, term) {
+        self.value_at(term.cells(), 0, 0)
+    }
+
+    /// What the top of the term is that begins at this cell.
+    pub fn value_at(&self, cells: &[Cell], at: usize, first: u32) -> Given
+        requires whole { IsForest cells.now }
+        requires within { at < length cells.now }
+        requires over { AreOver (present self.now) (counted_all first (forest cells.now)) }
+        ensures given { given_of result ≡ given (present self.now).domains (in_place (present self.now) (counted_from first (term_at cells.now at))) }
+        ensures row { IsRow (present self.now) }
+    {
+        match terms::top(&self.state, cells, at, first) {
             Value::Int(value) => Given::Int(value),
             Value::Variable(free) => {
                 if terms::domain_of(&self.state, free).is_some() {
@@ -206,7 +320,17 @@ impl Bindings {
         requires over { IsOver (present self.now) term.now }
         ensures { option_map (λ d. set_of d.now) result ≡ domain_in (present self.now) (in_place (present self.now) term.now) }
     {
-        match terms::top(&self.state, term) {
+        self.domain_at(term.cells(), 0, 0)
+    }
+
+    /// The same of the term that begins at this cell.
+    pub fn domain_at(&self, cells: &[Cell], at: usize, first: u32) -> Option<&Domain>
+        requires whole { IsForest cells.now }
+        requires within { at < length cells.now }
+        requires over { AreOver (present self.now) (counted_all first (forest cells.now)) }
+        ensures { option_map (λ d. set_of d.now) result ≡ domain_in (present self.now) (in_place (present self.now) (counted_from first (term_at cells.now at))) }
+    {
+        match terms::top(&self.state, cells, at, first) {
             Value::Variable(free) => terms::domain_of(&self.state, free),
             _ => None,
         }
@@ -231,8 +355,11 @@ impl Bindings {
     pub fn copy(&self) -> Result<Bindings, AllocError>
         ensures { IfOk result (λ b. b ≡ self.now) }
     {
+        let alloc = *self.work.allocator();
         Ok(Bindings {
             state: self.state.copy()?,
+            work: Vec::new(alloc),
+            scratch: Scratch::new(alloc),
         })
     }
 }

@@ -1,40 +1,106 @@
-//! A clause's head against a term of the heap: only what a variable of the goal is bound to is copied.
-ghost use Rattle.std.specs.Prelude.{◌≡◌, ◌<◌, length, IfOk, IsTrue, MatchOption, All};
-ghost use Rattle.pp_algebra.specs.Solve.{equation};
-ghost use Rattle.pp_algebra.specs.Terms.{variable};
+//! A value against a clause's head, where it stands: of the head, only what a variable is bound to is copied.
+ghost use Rattle.std.specs.Prelude.{◌≡◌, ℕ, ◌+◌, ◌<◌, ◌≤◌, ◌^◌, length, IfOk, IsTrue, true, false, All};
+ghost use Rattle.pp_algebra.specs.Terms.{variable, more, join};
+ghost use Rattle.pp_algebra.specs.Least.{rest};
+ghost use Rattle.pp_row.specs.Reading.{IsForest};
 ghost use Rattle.pp_heap.specs.Values.{cell_at, term_at, value_term};
 ghost use Rattle.pp_heap.specs.Stores.{store_of};
 ghost use Rattle.pp_heap.specs.Soundness.{IsGood, IsCompound};
-ghost use Rattle.pp_heap.specs.Outcomes.{IsNow, IsUnbound, IsFurther, IsVerdict, AreMore};
-ghost use Rattle.pp_heap.specs.Spans.{IsSpan, terms_of};
-ghost use Rattle.pp_algebra.specs.Numbered.{counted_from};
-ghost use Rattle.pp_unify.specs.Tops.{IsAmong};
-ghost use Rattle.pp_unify.specs.Heads.{IsHead, IsPiece, IsLeaf, HasPassed};
+ghost use Rattle.pp_heap.specs.Outcomes.{IsNow, IsUnbound};
+ghost use Rattle.pp_heap.specs.Spans.{IsSpan, span_terms, terms_of};
+ghost use Rattle.pp_unify.specs.Heads.{IsPiece, HasTurned, HasStepped, HasMetVariable};
+ghost use Rattle.pp_unify.specs.Joining.{IsOnward, AreBelow, IsRaised};
 
+use crate::pair::Scratch;
+use crate::terms::add_bound;
 use crate::unify::{is_same, unify_values};
 use pp_heap::{Span, State, Value};
-use pp_row::{Cell, Term, end_of};
+use pp_row::{Cell, end_of};
 use std::alloc::AllocError;
 
-/// What a term of the head is that is no compound.
-fn leaf(state: &State, cells: &[Cell], at: usize, first: u32) -> Option<Value>
-    requires good { IsGood state.now }
-    requires head { IsHead state.now.slots.items first cells.now }
+/// Adds variables until there are so many.
+pub(crate) fn add_up_to(state: &mut State, amount: usize) -> Result<(), AllocError>
+    requires good { IsGood state.old }
+    ensures onward { IsOnward state.old state.new }
+    ensures raised { IfOk result (λ _. IsRaised state.old state.new amount) }
+{
+    let now = state.slots.len();
+    if now < amount {
+        let missing = u32::try_from(amount - now).map_err(|_| AllocError)?;
+        state.add_many(missing)?;
+    }
+    Ok(())
+}
+
+/// Makes a value and a variable of the head equal; false where nothing does. A variable without a slot gets one
+/// and is bound without an occurs check: no term can have it in it.
+fn meet_variable(
+    state: &mut State,
+    scratch: &mut Scratch,
+    value: Value,
+    number: u32,
+) -> Result<bool, AllocError>
+    requires good { IsGood state.old }
+    requires value { IsNow (store_of state.old) value }
+    ensures onward { IsOnward state.old state.new }
+    ensures met { IfOk result (HasMetVariable state.old state.new (value_term state.old.heap.items value) number) }
+{
+    if (number as usize) < state.slots.len() {
+        let known = state.value_of(number);
+        unify_values(state, scratch, value, known)
+    } else {
+        add_up_to(state, number as usize)?;
+        add_bound(state, value)?;
+        Ok(true)
+    }
+}
+
+/// Makes a value and a term of the head that is no compound equal; false where nothing does.
+fn meet_leaf(
+    state: &mut State,
+    scratch: &mut Scratch,
+    value: Value,
+    cells: &[Cell],
+    at: usize,
+    first: u32,
+) -> Result<bool, AllocError>
+    requires good { IsGood state.old }
+    requires value { IsNow (store_of state.old) value }
+    requires head { IsForest cells.now }
+    requires fits { AreBelow (2 ^ 32) first cells.now }
     requires within { at < length cells.now }
-    ensures { MatchOption result (IsCompound (cell_at cells.now at)) (IsLeaf (store_of state.now) first cells.now at) }
+    requires plain { IsCompound (cell_at cells.now at) → ⊥ }
+    ensures onward { IsOnward state.old state.new }
+    ensures stepped { IfOk result (HasStepped state.old state.new (value_term state.old.heap.items value) first cells.now at) }
 {
     match cells[at] {
-        Cell::Int(value) => Some(Value::Int(value)),
-        Cell::Atom(name) => Some(Value::Atom(name)),
-        Cell::Compound(_, _) => None,
-        Cell::Var(variable) => Some(state.value_of(first + variable)),
+        Cell::Int(known) => unify_values(state, scratch, value, Value::Int(known)),
+        Cell::Atom(name) => unify_values(state, scratch, value, Value::Atom(name)),
+        Cell::Compound(_, _) => Ok(false),
+        Cell::Var(variable) => meet_variable(state, scratch, value, first + variable),
     }
+}
+
+/// How many variables there are up to the last one of these cells; none where there is no variable in them.
+fn variables_up_to(cells: &[Cell], first: u32) -> usize
+    requires fits { AreBelow (2 ^ 32) first cells.now }
+    ensures below { AreBelow result first cells.now }
+    ensures least { (n : ℕ) → AreBelow n first cells.now → result ≤ n }
+{
+    let mut end: usize = 0;
+    for cell in cells {
+        if let Cell::Var(variable) = *cell {
+            end = end.max((first + variable) as usize + 1);
+        }
+    }
+    end
 }
 
 /// Binds a free variable to a compound of the head, which is put to the heap; false where nothing makes them
 /// equal.
 fn bind_copy(
     state: &mut State,
+    scratch: &mut Scratch,
     free: u32,
     cells: &[Cell],
     at: usize,
@@ -43,22 +109,25 @@ fn bind_copy(
 ) -> Result<bool, AllocError>
     requires good { IsGood state.old }
     requires unbound { IsUnbound (store_of state.old) free }
-    requires head { IsHead state.old.slots.items first cells.now }
+    requires head { IsForest cells.now }
+    requires fits { AreBelow (2 ^ 32) first cells.now }
     requires within { at < length cells.now }
     requires compound { IsCompound (cell_at cells.now at) }
     requires piece { IsPiece cells.now at end }
-    ensures further { IsFurther state.old state.new }
-    ensures heap { AreMore state.old.heap.items state.new.heap.items }
-    ensures verdict { IfOk result (IsVerdict state.old state.new (equation (variable free) (counted_from first (term_at cells.now at)))) }
+    ensures onward { IsOnward state.old state.new }
+    ensures stepped { IfOk result (HasStepped state.old state.new (variable free) first cells.now at) }
 {
-    let place = state.grow(&cells[at..end], first)?;
-    state.assign(free, Value::Compound(place))
+    let copied = &cells[at..end];
+    add_up_to(state, variables_up_to(copied, first))?;
+    let place = state.grow(copied, first)?;
+    state.assign(free, Value::Compound(place), &mut scratch.spans)
 }
 
 /// Makes a value and a compound of the head equal, but for the arguments of a compound, which the work has more;
 /// answers where the head goes on.
 fn meet_compound(
     state: &mut State,
+    scratch: &mut Scratch,
     work: &mut Vec<Span>,
     value: Value,
     cells: &[Cell],
@@ -67,12 +136,13 @@ fn meet_compound(
 ) -> Result<Option<usize>, AllocError>
     requires good { IsGood state.old }
     requires value { IsNow (store_of state.old) value }
-    requires head { IsHead state.old.slots.items first cells.now }
+    requires head { IsForest cells.now }
+    requires fits { AreBelow (2 ^ 32) first cells.now }
     requires within { at < length cells.now }
     requires compound { IsCompound (cell_at cells.now at) }
     requires all { All (IsSpan state.old.heap.items) work.old.items }
-    ensures further { IsFurther state.old state.new }
-    ensures passed { IfOk result (HasPassed state.old state.new (terms_of state.old.heap.items work.old.items) work.new.items (value_term state.old.heap.items value) first cells.now at) }
+    ensures onward { IsOnward state.old state.new }
+    ensures turned { IfOk result (HasTurned state.old state.new (more (value_term state.old.heap.items value) (terms_of state.old.heap.items work.old.items)) work.new.items first cells.now at) }
 {
     match value {
         Value::Compound(place) => {
@@ -85,7 +155,7 @@ fn meet_compound(
         }
         Value::Variable(free) => {
             let end = end_of(cells, at);
-            if bind_copy(state, free, cells, at, end, first)? {
+            if bind_copy(state, scratch, free, cells, at, end, first)? {
                 Ok(Some(end))
             } else {
                 Ok(None)
@@ -95,10 +165,23 @@ fn meet_compound(
     }
 }
 
+/// Whether a compound begins at this cell.
+fn is_compound(cells: &[Cell], at: usize) -> bool
+    requires within { at < length cells.now }
+    ensures yes { result ≡ true → IsCompound (cell_at cells.now at) }
+    ensures no { result ≡ false → IsCompound (cell_at cells.now at) → ⊥ }
+{
+    match cells[at] {
+        Cell::Compound(_, _) => true,
+        _ => false,
+    }
+}
+
 /// Makes a value and a term of the head equal, but for the arguments of a compound, which the work has more;
 /// answers where the head goes on.
-fn meet_head(
+pub(crate) fn meet_head(
     state: &mut State,
+    scratch: &mut Scratch,
     work: &mut Vec<Span>,
     value: Value,
     cells: &[Cell],
@@ -107,21 +190,19 @@ fn meet_head(
 ) -> Result<Option<usize>, AllocError>
     requires good { IsGood state.old }
     requires value { IsNow (store_of state.old) value }
-    requires head { IsHead state.old.slots.items first cells.now }
+    requires head { IsForest cells.now }
+    requires fits { AreBelow (2 ^ 32) first cells.now }
     requires within { at < length cells.now }
     requires all { All (IsSpan state.old.heap.items) work.old.items }
-    ensures further { IsFurther state.old state.new }
-    ensures passed { IfOk result (HasPassed state.old state.new (terms_of state.old.heap.items work.old.items) work.new.items (value_term state.old.heap.items value) first cells.now at) }
+    ensures onward { IsOnward state.old state.new }
+    ensures turned { IfOk result (HasTurned state.old state.new (more (value_term state.old.heap.items value) (terms_of state.old.heap.items work.old.items)) work.new.items first cells.now at) }
 {
-    match leaf(state, cells, at, first) {
-        None => meet_compound(state, work, value, cells, at, first),
-        Some(other) => {
-            if unify_values(state, value, other)? {
-                Ok(Some(at + 1))
-            } else {
-                Ok(None)
-            }
-        }
+    if is_compound(cells, at) {
+        meet_compound(state, scratch, work, value, cells, at, first)
+    } else if meet_leaf(state, scratch, value, cells, at, first)? {
+        Ok(Some(at + 1))
+    } else {
+        Ok(None)
     }
 }
 
@@ -134,36 +215,31 @@ fn is_alike(state: &State, place: u32, cells: &[Cell], at: usize) -> bool
     state.is_compound(place) && is_same(state.heap[place as usize], cells[at])
 }
 
-/// Makes a value and a clause's head equal, whose variables are counted from `first`; false where nothing does.
-pub(crate) fn unify_in_place(
+/// Makes the first term of a span and the head's next term equal, but for what the work has more; answers where
+/// the head goes on.
+pub(crate) fn turn(
     state: &mut State,
-    goal: Value,
-    head: &Term,
+    scratch: &mut Scratch,
+    work: &mut Vec<Span>,
+    span: Span,
+    cells: &[Cell],
+    at: usize,
     first: u32,
-) -> Result<bool, AllocError>
+) -> Result<Option<usize>, AllocError>
     requires good { IsGood state.old }
-    requires goal { IsNow (store_of state.old) goal }
-    requires head { IsAmong state.old.slots.items (counted_from first head.now) }
-    ensures further { IsFurther state.old state.new }
-    ensures verdict { IfOk result (IsVerdict state.old state.new (equation (value_term state.old.heap.items goal) (counted_from first head.now))) }
+    requires span { IsSpan state.old.heap.items span }
+    requires head { IsForest cells.now }
+    requires fits { AreBelow (2 ^ 32) first cells.now }
+    requires within { at < length cells.now }
+    requires all { All (IsSpan state.old.heap.items) work.old.items }
+    ensures onward { IsOnward state.old state.new }
+    ensures turned { IfOk result (HasTurned state.old state.new (more (term_at state.old.heap.items span.at) (join (rest (span_terms state.old.heap.items span)) (terms_of state.old.heap.items work.old.items))) work.new.items first cells.now at) }
 {
-    let cells = head.cells();
-    let mut work = Vec::new(*state.heap.allocator());
-    let Some(mut next) = meet_head(state, &mut work, goal, cells, 0, first)? else {
-        return Ok(false);
-    };
-    while let Some(span) = work.pop() {
-        if is_alike(state, span.at, cells, next) {
-            state.push_inside(&mut work, span)?;
-            next += 1;
-            continue;
-        }
-        state.push_rest(&mut work, span)?;
-        let value = state.look(span.at);
-        match meet_head(state, &mut work, value, cells, next, first)? {
-            Some(after) => next = after,
-            None => return Ok(false),
-        }
+    if is_alike(state, span.at, cells, at) {
+        state.push_inside(work, span)?;
+        return Ok(Some(at + 1));
     }
-    Ok(true)
+    state.push_rest(work, span)?;
+    let value = state.look(span.at);
+    meet_head(state, scratch, work, value, cells, at, first)
 }

@@ -3,6 +3,7 @@
 
 mod bindings;
 mod head;
+mod join;
 mod laws;
 mod pair;
 mod terms;

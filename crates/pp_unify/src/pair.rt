@@ -7,8 +7,8 @@ ghost use Rattle.pp_heap.specs.Spans.{span_terms};
 ghost use Rattle.pp_unify.specs.Pairs.{IsPair, Pushes, Opens, left_span, right_span};
 
 use crate::unify::is_same;
-use pp_heap::State;
-use std::alloc::AllocError;
+use pp_heap::{Span, State};
+use std::alloc::{AllocError, Global};
 
 /// Terms that stand one after another in the heap, and as many others that are to be equal to them.
 #[derive(Clone, Copy, Debug, PartialEq, Eq)]
@@ -16,6 +16,23 @@ pub(crate) struct Pair {
     pub(crate) left: u32,
     pub(crate) right: u32,
     pub(crate) count: u32,
+}
+
+/// Stacks that are kept from call to call for their memory alone: the pairs that are still to be made equal, and the
+/// work of the occurs check.
+#[derive(Debug, Drop)]
+pub(crate) struct Scratch {
+    pub(crate) pairs: Vec<Pair>,
+    pub(crate) spans: Vec<Span>,
+}
+
+impl Scratch {
+    pub(crate) fn new(alloc: Global) -> Scratch {
+        Scratch {
+            pairs: Vec::new(alloc),
+            spans: Vec::new(alloc),
+        }
+    }
 }
 
 /// Whether two compounds of one name and number of arguments begin at these places.

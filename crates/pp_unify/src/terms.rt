@@ -1,17 +1,21 @@
 //! Terms from outside, with all bindings in place.
-ghost use Rattle.std.specs.Prelude.{◌≡◌, ℕ, ◌<◌, ◌++◌, length, IfOk, map, Option, option_map};
-ghost use Rattle.pp_algebra.specs.Terms.{put, variable};
+ghost use Rattle.std.specs.Prelude.{◌≡◌, ℕ, ◌<◌, ◌++◌, length, IfOk, MatchOption, map, Option, option_map};
+ghost use Rattle.pp_algebra.specs.Terms.{int, put, variable};
+ghost use Rattle.pp_algebra.specs.Members.{IsInteger};
 ghost use Rattle.pp_domain.specs.Sets.{set_of};
 ghost use Rattle.pp_row.specs.Columns.{sets_of};
-ghost use Rattle.pp_heap.specs.Values.{slot_at, slot_domain, value_term};
+ghost use Rattle.pp_heap.specs.Values.{slot_at, slot_domain, cell_at, term_at, value_term};
 ghost use Rattle.pp_heap.specs.Stores.{store_of, solution};
-ghost use Rattle.pp_algebra.specs.Solve.{equation};
+ghost use Rattle.pp_algebra.specs.Solve.{equation, membership};
 ghost use Rattle.pp_heap.specs.Agreement.{Follows};
-ghost use Rattle.pp_heap.specs.Soundness.{IsGood, IsKept, IsPlace};
-ghost use Rattle.pp_heap.specs.Outcomes.{IsGrown, IsValue, IsNow, IsAddedAs};
+ghost use Rattle.pp_heap.specs.Soundness.{IsGood, IsKept, IsPlace, IsCompound};
+ghost use Rattle.pp_heap.specs.Outcomes.{IsGrown, IsValue, IsNow, IsAddedAs, IsLater, IsVerdict};
 ghost use Rattle.pp_algebra.specs.Numbered.{counted_from};
 ghost use Rattle.pp_unify.specs.Tops.{IsAmong, IsTop, cells_under};
+ghost use Rattle.pp_unify.specs.Heads.{IsHead, IsLeaf};
 
+use crate::pair::Scratch;
+use crate::unify::unify_values;
 use crate::writing::resolve;
 use indexmap::IndexSet;
 use pp_domain::Domain;
@@ -29,17 +33,77 @@ fn copied(domain: Option<&Domain>) -> Result<Option<Domain>, AllocError>
     }
 }
 
-/// The top of a term. Of a compound it doesn't say where it stands.
-pub(crate) fn top(state: &State, term: &Term) -> Value
+/// What a term is that is no compound.
+pub(crate) fn leaf(state: &State, cells: &[Cell], at: usize, first: u32) -> Option<Value>
     requires good { IsGood state.now }
-    requires among { IsAmong state.now.slots.items term.now }
-    ensures { IsTop state.now.slots.items (put (solution state.now) term.now) result }
+    requires head { IsHead state.now.slots.items first cells.now }
+    requires within { at < length cells.now }
+    ensures { MatchOption result (IsCompound (cell_at cells.now at)) (IsLeaf (store_of state.now) first cells.now at) }
 {
-    match term.cells()[0] {
-        Cell::Int(value) => Value::Int(value),
-        Cell::Atom(name) => Value::Atom(name),
-        Cell::Compound(_, _) => Value::Compound(0),
-        Cell::Var(variable) => state.value_of(variable),
+    match cells[at] {
+        Cell::Int(value) => Some(Value::Int(value)),
+        Cell::Atom(name) => Some(Value::Atom(name)),
+        Cell::Compound(_, _) => None,
+        Cell::Var(variable) => Some(state.value_of(first + variable)),
+    }
+}
+
+/// The top of the term at this place. Of a compound it doesn't say where it stands.
+pub(crate) fn top(state: &State, cells: &[Cell], at: usize, first: u32) -> Value
+    requires good { IsGood state.now }
+    requires head { IsHead state.now.slots.items first cells.now }
+    requires within { at < length cells.now }
+    ensures { IsTop state.now.slots.items (put (solution state.now) (counted_from first (term_at cells.now at))) result }
+{
+    match leaf(state, cells, at, first) {
+        Some(value) => value,
+        None => Value::Compound(0),
+    }
+}
+
+/// Makes the term at this place be in a domain; false where nothing does.
+pub(crate) fn narrow(
+    state: &mut State,
+    cells: &[Cell],
+    at: usize,
+    first: u32,
+    domain: &Domain,
+) -> Result<bool, AllocError>
+    requires good { IsGood state.old }
+    requires head { IsHead state.old.slots.items first cells.now }
+    requires within { at < length cells.now }
+    ensures later { IsLater state.old state.new }
+    ensures verdict { IfOk result (IsVerdict state.old state.new (membership (counted_from first (term_at cells.now at)) (set_of domain.now))) }
+{
+    let Some(known) = leaf(state, cells, at, first) else {
+        return Ok(false);
+    };
+    match known {
+        Value::Variable(free) => state.narrow(free, domain),
+        Value::Int(value) => Ok(domain.has(value)),
+        _ => Ok(false),
+    }
+}
+
+/// Makes the term at this place an integer; false where nothing does.
+pub(crate) fn equate(
+    state: &mut State,
+    scratch: &mut Scratch,
+    cells: &[Cell],
+    at: usize,
+    first: u32,
+    value: i64,
+) -> Result<bool, AllocError>
+    requires good { IsGood state.old }
+    requires head { IsHead state.old.slots.items first cells.now }
+    requires within { at < length cells.now }
+    requires integer { IsInteger value }
+    ensures later { IsLater state.old state.new }
+    ensures verdict { IfOk result (IsVerdict state.old state.new (equation (counted_from first (term_at cells.now at)) (int value))) }
+{
+    match leaf(state, cells, at, first) {
+        Some(known) => unify_values(state, scratch, known, Value::Int(value)),
+        None => Ok(false),
     }
 }
 
@@ -130,6 +194,7 @@ pub(crate) fn add_bound(state: &mut State, value: Value) -> Result<u32, AllocErr
     ensures kept { IsKept state.old state.new }
     ensures number { IfOk result (λ v. v ≡ length state.old.slots.items) }
     ensures added { IfOk result (λ _. IsAddedAs state.old state.new value) }
+    ensures heap { IfOk result (λ _. state.new.heap.items ≡ state.old.heap.items) }
     ensures follows { IfOk result (λ v. Follows state.old state.new (equation (variable v) (value_term state.old.heap.items value))) }
 {
     let number = state.add_slot(None)?;

@@ -4,17 +4,15 @@ ghost use Rattle.pp_algebra.specs.Terms.{variable};
 ghost use Rattle.pp_heap.specs.Values.{cell_at, term_at, value_term};
 ghost use Rattle.pp_heap.specs.Stores.{store_of};
 ghost use Rattle.pp_heap.specs.Soundness.{IsGood, IsFixed, IsCompound};
-ghost use Rattle.pp_heap.specs.Outcomes.{IsNow, IsLater, IsFurther, IsVerdict};
+ghost use Rattle.pp_heap.specs.Outcomes.{IsNow, IsLater, IsVerdict};
 ghost use Rattle.pp_unify.specs.Equating.{HasMet, met_by};
-ghost use Rattle.pp_algebra.specs.Numbered.{counted_from};
-ghost use Rattle.pp_unify.specs.Tops.{IsAmong};
 ghost use Rattle.pp_algebra.specs.Solve.{equation};
 
-use crate::head::unify_in_place;
-use crate::pair::{are_alike, push_pair_arguments, push_pair_inside, push_pair_rest};
-use crate::terms::entered;
-use pp_heap::{State, Value};
-use pp_row::{Cell, Term};
+use crate::pair::{
+    Pair, Scratch, are_alike, push_pair_arguments, push_pair_inside, push_pair_rest,
+};
+use pp_heap::{Span, State, Value};
+use pp_row::Cell;
 use std::alloc::AllocError;
 
 /// What became of an equation of two terms: nothing makes them equal, they are equal, or the arguments of the
@@ -46,7 +44,7 @@ fn is_same_value(one: Value, other: Value) -> bool
 }
 
 /// The equation of the terms at two places, but for their arguments.
-fn meet(state: &mut State, left: u32, right: u32) -> Result<Met, AllocError>
+fn meet(state: &mut State, spans: &mut Vec<Span>, left: u32, right: u32) -> Result<Met, AllocError>
     requires good { IsGood state.old }
     requires left { left < length state.old.heap.items }
     requires right { right < length state.old.heap.items }
@@ -55,11 +53,16 @@ fn meet(state: &mut State, left: u32, right: u32) -> Result<Met, AllocError>
 {
     let one = state.look(left);
     let other = state.look(right);
-    equate(state, one, other)
+    equate(state, spans, one, other)
 }
 
 /// The same of two values.
-fn equate(state: &mut State, one: Value, other: Value) -> Result<Met, AllocError>
+fn equate(
+    state: &mut State,
+    spans: &mut Vec<Span>,
+    one: Value,
+    other: Value,
+) -> Result<Met, AllocError>
     requires good { IsGood state.old }
     requires one { IsNow (store_of state.old) one }
     requires other { IsNow (store_of state.old) other }
@@ -69,10 +72,10 @@ fn equate(state: &mut State, one: Value, other: Value) -> Result<Met, AllocError
     match one {
         Value::Variable(left) => match other {
             Value::Variable(right) => Ok(outcome(state.merge(left, right)?)),
-            _ => Ok(outcome(state.assign(left, other)?)),
+            _ => Ok(outcome(state.assign(left, other, spans)?)),
         },
         _ => match other {
-            Value::Variable(right) => Ok(outcome(state.assign(right, one)?)),
+            Value::Variable(right) => Ok(outcome(state.assign(right, one, spans)?)),
             _ => Ok(compare(state, one, other)),
         },
     }
@@ -108,24 +111,37 @@ fn compare_names(state: &State, one: u32, other: u32) -> Met
     }
 }
 
-/// Makes two values equal; false where nothing does. Only two compounds take a stack.
-pub(crate) fn unify_values(state: &mut State, one: Value, other: Value) -> Result<bool, AllocError>
+/// Makes two values equal; false where nothing does.
+pub(crate) fn unify_values(
+    state: &mut State,
+    scratch: &mut Scratch,
+    one: Value,
+    other: Value,
+) -> Result<bool, AllocError>
     requires good { IsGood state.old }
     requires one { IsNow (store_of state.old) one }
     requires other { IsNow (store_of state.old) other }
     ensures later { IsLater state.old state.new }
     ensures verdict { IfOk result (IsVerdict state.old state.new (equation (value_term state.old.heap.items one) (value_term state.old.heap.items other))) }
 {
-    match equate(state, one, other)? {
+    match equate(state, &mut scratch.spans, one, other)? {
         Met::Apart => Ok(false),
         Met::Done => Ok(true),
-        Met::Open(left, right) => unify_arguments(state, left, right),
+        Met::Open(left, right) => {
+            unify_arguments(state, &mut scratch.pairs, &mut scratch.spans, left, right)
+        }
     }
 }
 
 /// Makes the compounds at two places equal, which have one name and number of arguments; false where nothing
 /// does.
-fn unify_arguments(state: &mut State, left: u32, right: u32) -> Result<bool, AllocError>
+fn unify_arguments(
+    state: &mut State,
+    work: &mut Vec<Pair>,
+    spans: &mut Vec<Span>,
+    left: u32,
+    right: u32,
+) -> Result<bool, AllocError>
     requires good { IsGood state.old }
     requires left { left < length state.old.heap.items }
     requires right { right < length state.old.heap.items }
@@ -134,25 +150,30 @@ fn unify_arguments(state: &mut State, left: u32, right: u32) -> Result<bool, All
     ensures later { IsLater state.old state.new }
     ensures verdict { IfOk result (IsVerdict state.old state.new (equation (term_at state.old.heap.items left) (term_at state.old.heap.items right))) }
 {
-    let mut work = Vec::new(*state.heap.allocator());
-    push_pair_arguments(state, &mut work, left, right)?;
+    work.clear();
+    push_pair_arguments(state, work, left, right)?;
     while let Some(pair) = work.pop() {
         if are_alike(state, pair.left, pair.right) {
-            push_pair_inside(state, &mut work, pair)?;
+            push_pair_inside(state, work, pair)?;
             continue;
         }
-        push_pair_rest(state, &mut work, pair)?;
-        match meet(state, pair.left, pair.right)? {
+        push_pair_rest(state, work, pair)?;
+        match meet(state, spans, pair.left, pair.right)? {
             Met::Apart => return Ok(false),
             Met::Done => {}
-            Met::Open(one, other) => push_pair_arguments(state, &mut work, one, other)?,
+            Met::Open(one, other) => push_pair_arguments(state, work, one, other)?,
         }
     }
     Ok(true)
 }
 
 /// Makes two variables equal; false where nothing does.
-pub(crate) fn unify_variables(state: &mut State, one: u32, other: u32) -> Result<bool, AllocError>
+pub(crate) fn unify_variables(
+    state: &mut State,
+    scratch: &mut Scratch,
+    one: u32,
+    other: u32,
+) -> Result<bool, AllocError>
     requires good { IsGood state.old }
     requires one { one < length state.old.slots.items }
     requires other { other < length state.old.slots.items }
@@ -161,24 +182,5 @@ pub(crate) fn unify_variables(state: &mut State, one: u32, other: u32) -> Result
 {
     let left = state.value_of(one);
     let right = state.value_of(other);
-    unify_values(state, left, right)
-}
-
-/// Makes two terms from outside equal, whose variables are counted from these numbers; false where nothing
-/// does.
-pub(crate) fn unify_terms(
-    state: &mut State,
-    one: &Term,
-    one_first: u32,
-    other: &Term,
-    other_first: u32,
-) -> Result<bool, AllocError>
-    requires good { IsGood state.old }
-    requires one { IsAmong state.old.slots.items (counted_from one_first one.now) }
-    requires other { IsAmong state.old.slots.items (counted_from other_first other.now) }
-    ensures further { IsFurther state.old state.new }
-    ensures verdict { IfOk result (IsVerdict state.old state.new (equation (counted_from one_first one.now) (counted_from other_first other.now))) }
-{
-    let left = entered(state, one, one_first)?;
-    unify_in_place(state, left, other, other_first)
+    unify_values(state, scratch, left, right)
 }

@@ -1,34 +1,20 @@
 use Rattle.std.proofs.Common.{◌+◌, ◌<◌, refl, arith}
-use Rattle.pp_heap.specs.Values.{term_at, value_term}
-use Rattle.pp_algebra.specs.Numbered.{counted_from}
-use Rattle.pp_unify.proofs.HeadSteps.{gone_past, leaf_next, same_heap}
-use Rattle.pp_unify.proofs.Equations.{verdict_same, alike_itself}
+use Rattle.pp_heap.specs.Spans.{terms_of}
+use Rattle.pp_heap.specs.Values.{value_term}
+use Rattle.pp_unify.proofs.HeadSteps.{gone_turned, apart_turned, leaf_next}
 use Rattle.pp_unify.proofs.head.meet_head.Goals as goal
 
-pub returns-then-branch-clause-passed : goal.returns-then-branch-clause-passed
-returns-then-branch-clause-passed c =
+pub returns-then-branch-clause-turned : goal.returns-then-branch-clause-turned
+returns-then-branch-clause-turned c =
     let a = c.args.state.now in
-    let b = c.unify_values.new.state in
-    let h = a.heap.items in
-    let t = value_term h c.args.value in
     let cs = c.args.cells.now in
-    let u = counted_from c.args.first (term_at cs c.args.at) in
-    let k = c.in-Some.ensures in
-    let r = c.in_ok-unify_values-in-Some.field-0 in
-    let w = verdict_same a a b t u t (value_term h c.in-Some.other) r (alike_itself a) (λ ds s x. refl) k.value.same c.in_ok-unify_values-in-Some.ensures.verdict in
-    let v = rw c.if-branch.true at w in
-    let l : c.args.at < c.args.at + 1 = omega arith in
-    gone_past a b c.args.work.now.items t c.args.first cs c.args.at (c.args.at + 1) c.requires.good (same_heap h b.heap.items c.unify_values.ensures.later.heap) c.requires.all (leaf_next cs c.args.at c.requires.head.forest c.requires.within k.plain) l v
+    let at = c.args.at in
+    let v = rw c.if-branch.true at c.in_ok-meet_leaf.ensures.stepped in
+    let l : at < at + 1 = omega arith in
+    gone_turned a c.meet_leaf.new.state c.args.work.now.items (value_term a.heap.items c.args.value) c.args.first cs at (at + 1) c.requires.good c.requires.head c.requires.within c.requires.all (leaf_next cs at c.requires.head c.requires.within (c.if-is_compound.ensures.no refl)) l v
 
-pub returns-else-branch-clause-passed : goal.returns-else-branch-clause-passed
-returns-else-branch-clause-passed c =
+pub returns-else-branch-clause-turned : goal.returns-else-branch-clause-turned
+returns-else-branch-clause-turned c =
     let a = c.args.state.now in
-    let b = c.unify_values.new.state in
-    let h = a.heap.items in
-    let t = value_term h c.args.value in
-    let cs = c.args.cells.now in
-    let u = counted_from c.args.first (term_at cs c.args.at) in
-    let k = c.in-Some.ensures in
-    let r = c.in_ok-unify_values-in-Some.field-0 in
-    let w = verdict_same a a b t u t (value_term h c.in-Some.other) r (alike_itself a) (λ ds s x. refl) k.value.same c.in_ok-unify_values-in-Some.ensures.verdict in
-    rw c.if-branch.false at w
+    let x = rw c.if-branch.false at c.in_ok-meet_leaf.ensures.stepped in
+    apart_turned a (value_term a.heap.items c.args.value) (terms_of a.heap.items c.args.work.now.items) c.args.first c.args.cells.now c.args.at c.requires.head c.requires.within x

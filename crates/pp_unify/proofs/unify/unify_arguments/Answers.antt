@@ -19,7 +19,7 @@ loop-pair-init c =
     let l = c.args.left in
     let r = c.args.right in
     let now = c.push_pair_arguments.new.work.items in
-    let w : Pushes h [] now (arguments (term_at h l)) (arguments (term_at h r)) = subst (λ ws. Pushes h ws now (arguments (term_at h l)) (arguments (term_at h r))) c.new-work.ensures.items c.in_ok-push_pair_arguments.ensures in
+    let w : Pushes h [] now (arguments (term_at h l)) (arguments (term_at h r)) = subst (λ ws. Pushes h ws now (arguments (term_at h l)) (arguments (term_at h r))) c.clear.ensures.items c.in_ok-push_pair_arguments.ensures in
     record {
       later = later_itself a c.requires.good;
       all = w.all;

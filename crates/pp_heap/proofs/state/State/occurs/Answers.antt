@@ -15,7 +15,7 @@ pub loop-span-init : goal.loop-span-init
 loop-span-init c =
     let h = c.args.self.now.heap.items in
     let f = c.requires.good.linked.forest in
-    let e : c.push.new.self.items ≡ record { at = c.args.at; count = 1 } ∷ [] = c.in_ok-push.ensures.items ∙ ap (λ ws. ws ++ record { at = c.args.at; count = 1 } ∷ []) c.new-work.ensures.items in
+    let e : c.push.new.self.items ≡ record { at = c.args.at; count = 1 } ∷ [] = c.in_ok-push.ensures.items ∙ ap (λ ws. ws ++ record { at = c.args.at; count = 1 } ∷ []) c.clear.ensures.items in
     let v = vars_one (solution c.args.self.now) h c.args.at f c.requires.within in
     rw e (record {
       all = All-push (IsSpan h) [] _ (All-nil (IsSpan h)) (one_span h c.args.at f c.requires.within);

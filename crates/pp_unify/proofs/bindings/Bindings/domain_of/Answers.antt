@@ -1,22 +1,18 @@
-use Rattle.std.proofs.Common.{sym, ◌∙◌}
-use Rattle.pp_unify.proofs.Verdicts.{over_among}
-use Rattle.pp_unify.proofs.Givens.{top_variable, place_variable, place_none}
+use Rattle.std.proofs.Common.{sym, ap, ◌∙◌, subst}
+use Rattle.pp_unify.specs.States.{present, in_place, domain_in, IsOver}
+use Rattle.pp_unify.proofs.Grown.{counted-zero}
+use Rattle.pp_unify.proofs.Tops.{some_cell}
+use Rattle.pp_unify.proofs.Whole.{whole_forest, whole_over, whole_term}
 use Rattle.pp_unify.proofs.bindings.Bindings.domain_of.Goals as goal
 
-pub top-requires-clause-among : goal.top-requires-clause-among
-top-requires-clause-among c = over_among c.self.inside.state c.args.self.now c.args.term.now c.self.view_is c.requires.over
+pub domain_at-requires-clause-whole : goal.domain_at-requires-clause-whole
+domain_at-requires-clause-whole c = whole_forest c.args.term.now c.cells.result.now c.cells.ensures.cells c.cells.ensures.term
 
-pub returns-in-Variable : goal.returns-in-Variable
-returns-in-Variable c =
-    let s = c.self.inside.state in
-    let t = c.args.term.now in
-    let among = over_among s c.args.self.now t c.self.view_is c.requires.over in
-    let v = top_variable s.slots.items _ c.in-Variable.free c.in-Variable.ensures in
-    c.domain_of.ensures ∙ sym (place_variable s c.args.self.now t c.self.view_is among c.in-Variable.free v.0)
+pub domain_at-requires-clause-within : goal.domain_at-requires-clause-within
+domain_at-requires-clause-within c = some_cell c.args.term.now c.cells.result.now c.cells.ensures.cells c.cells.ensures.term
 
-pub returns-in_default : goal.returns-in_default
-returns-in_default c =
-    let s = c.self.inside.state in
-    let t = c.args.term.now in
-    let among = over_among s c.args.self.now t c.self.view_is c.requires.over in
-    sym (place_none s c.args.self.now t c.self.view_is among c.top.result c.top.ensures c.in_default.not-Variable)
+pub domain_at-requires-clause-over : goal.domain_at-requires-clause-over
+domain_at-requires-clause-over c = whole_over (present c.args.self.now) c.args.term.now c.cells.result.now 0 c.cells.ensures.cells (subst (IsOver (present c.args.self.now)) (sym (counted-zero c.args.term.now)) c.requires.over)
+
+pub returns : goal.returns
+returns c = c.domain_at.ensures ∙ ap (λ t. domain_in (present c.args.self.now) (in_place (present c.args.self.now) t)) (whole_term c.args.term.now c.cells.result.now 0 c.cells.ensures.cells ∙ counted-zero c.args.term.now)

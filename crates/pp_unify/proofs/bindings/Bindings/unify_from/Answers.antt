@@ -1,30 +1,39 @@
-use Rattle.std.proofs.Common.{refl, subst}
+use Rattle.std.proofs.Common.{sym, ap, ◌∙◌}
 use Rattle.std.proofs.lemmas.Result.{IfOk-weaker}
-use Rattle.pp_algebra.specs.Solve.{equation, put_item}
-use Rattle.pp_heap.specs.Outcomes.{IsVerdict}
-use Rattle.pp_unify.specs.States.{present, value_in, states_of, IsLonger, IsSolvedBy}
+use Rattle.pp_algebra.specs.Terms.{Trees, count}
 use Rattle.pp_algebra.specs.Numbered.{counted_from}
-use Rattle.pp_unify.proofs.Kept.{kept_longer}
-use Rattle.pp_unify.proofs.Verdicts.{present_row, over_among, solved_by}
+use Rattle.pp_algebra.specs.Solve.{equation}
+use Rattle.pp_row.specs.Reading.{forest}
+use Rattle.pp_unify.specs.States.{present, in_place, IsSolvedBy}
+use Rattle.pp_unify.specs.Forests.{pairs, AreDecided}
+use Rattle.pp_unify.proofs.Whole.{whole_forest, whole_one, whole_over, whole_decided}
 use Rattle.pp_unify.proofs.bindings.Bindings.unify_from.Goals as goal
 
-pub unify_terms-requires-clause-one : goal.unify_terms-requires-clause-one
-unify_terms-requires-clause-one c = over_among c.self.inside.state c.args.self.now (counted_from c.args.a_first c.args.a.now) c.self.view_is c.requires.left
+pub unify_spans-requires-clause-left_whole : goal.unify_spans-requires-clause-left_whole
+unify_spans-requires-clause-left_whole c = whole_forest c.args.a.now c.cells.result.now c.cells.ensures.cells c.cells.ensures.term
 
-pub unify_terms-requires-clause-other : goal.unify_terms-requires-clause-other
-unify_terms-requires-clause-other c = over_among c.self.inside.state c.args.self.now (counted_from c.args.b_first c.args.b.now) c.self.view_is c.requires.right
+pub unify_spans-requires-clause-right_whole : goal.unify_spans-requires-clause-right_whole
+unify_spans-requires-clause-right_whole c = whole_forest c.args.b.now c.cells-2.result.now c.cells-2.ensures.cells c.cells-2.ensures.term
+
+pub unify_spans-requires-clause-width : goal.unify_spans-requires-clause-width
+unify_spans-requires-clause-width c = ap (λ (ts : Trees _). count ts) (whole_one c.args.b.now c.cells-2.result.now c.cells-2.ensures.cells) ∙ sym (ap (λ (ts : Trees _). count ts) (whole_one c.args.a.now c.cells.result.now c.cells.ensures.cells))
+
+pub unify_spans-requires-clause-left : goal.unify_spans-requires-clause-left
+unify_spans-requires-clause-left c = whole_over (present c.args.self.now) c.args.a.now c.cells.result.now c.args.a_first c.cells.ensures.cells c.requires.left
+
+pub unify_spans-requires-clause-right : goal.unify_spans-requires-clause-right
+unify_spans-requires-clause-right c = whole_over (present c.args.self.now) c.args.b.now c.cells-2.result.now c.args.b_first c.cells-2.ensures.cells c.requires.right
 
 pub returns-clause-solved : goal.returns-clause-solved
 returns-clause-solved c =
-    let old = c.self.inside.state in
-    let new = c.unify_terms.new.state in
-    let was = c.args.self.now in
-    let one = counted_from c.args.a_first c.args.a.now in
-    let other = counted_from c.args.b_first c.args.b.now in
-    let further = c.unify_terms.ensures.further in
-    IfOk-weaker c.unify_terms.result (IsVerdict old new (equation one other)) (λ b. IsSolvedBy (present was) (put_item (value_in (present was)) (equation one other)) b (present (states_of new)))
-    (λ b v. solved_by old new (equation one other) b (present was) (present (states_of new)) (present_row old was c.self.view_is) (present_row new (states_of new) refl) c.self.invariant further.good further.variables (over_among old was one c.self.view_is c.requires.left, over_among old was other c.self.view_is c.requires.right) v)
-    c.unify_terms.ensures.verdict
-
-pub returns-clause-kept : goal.returns-clause-kept
-returns-clause-kept c = subst (λ rs. IsLonger rs (states_of c.unify_terms.new.state)) c.self.view_is (kept_longer c.self.inside.state c.unify_terms.new.state c.unify_terms.ensures.further.kept)
+    let r = present c.args.self.now in
+    let q = present c.unify_spans.new.self in
+    let n = c.args.a_first in
+    let m = c.args.b_first in
+    let a = c.args.a.now in
+    let b = c.args.b.now in
+    let cs = c.cells.result.now in
+    let ds = c.cells-2.result.now in
+    IfOk-weaker c.unify_spans.result (λ o. AreDecided r (pairs n (forest cs) m (forest ds)) o q) (λ o. IsSolvedBy r (equation (in_place r (counted_from n a)) (in_place r (counted_from m b))) o q)
+    (λ o h. whole_decided r q a b cs ds n m o c.cells.ensures.cells c.cells-2.ensures.cells h)
+    c.unify_spans.ensures.decided

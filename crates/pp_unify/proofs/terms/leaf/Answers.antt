@@ -5,7 +5,7 @@ use Rattle.pp_heap.specs.Soundness.{IsCompound}
 use Rattle.pp_algebra.specs.Numbered.{counted_from}
 use Rattle.pp_heap.proofs.Forests.{legal_at, int_at, atom_at, variable_at}
 use Rattle.pp_heap.proofs.Words.{word}
-use Rattle.pp_unify.proofs.head.leaf.Goals as goal
+use Rattle.pp_unify.proofs.terms.leaf.Goals as goal
 
 pub returns-in-Int : goal.returns-in-Int
 returns-in-Int c =
