@@ -4,4 +4,3 @@ pub mod Table
 pub mod Steps
 pub mod Unions
 pub mod Columns
-pub mod Wide

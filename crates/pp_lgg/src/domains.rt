@@ -57,7 +57,8 @@ fn union_at(
     b: &[Option<Domain>],
 ) -> Result<Option<Domain>, AllocError>
     requires { IsPair pair }
-    ensures { IfOk result (λ d. set_by d ≡ union_of (domain_at (sets_of a.now) ∷ domain_at (sets_of b.now) ∷ []) (name pair.entry)) }
+    ensures { IfOk result (λ d. set_by d
+        ≡ union_of (domain_at (sets_of a.now) ∷ domain_at (sets_of b.now) ∷ []) (name pair.entry)) }
 {
     let left = values(alloc, pair.left[0], a)?;
     let right = values(alloc, pair.right[0], b)?;
@@ -72,7 +73,8 @@ pub(crate) fn unions(
     b: &[Option<Domain>],
 ) -> Result<Vec<Option<Domain>>, AllocError>
     requires { All IsPair pairs.now.keys }
-    ensures { IfOk result (λ ds. sets_of ds.items ≡ map (union_of (domain_at (sets_of a.now) ∷ domain_at (sets_of b.now) ∷ [])) (names pairs.now.keys)) }
+    ensures { IfOk result (λ ds. sets_of ds.items
+        ≡ map (union_of (domain_at (sets_of a.now) ∷ domain_at (sets_of b.now) ∷ [])) (names pairs.now.keys)) }
 {
     let mut domains = Vec::with_capacity(alloc, pairs.len())?;
     for pair in pairs {

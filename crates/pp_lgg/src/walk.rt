@@ -15,7 +15,8 @@ fn number<'a>(pairs: &mut IndexSet<Pair<'a>>, pair: Pair<'a>) -> Result<u32, All
     requires pair { IsPair pair }
     requires pairs { All IsPair pairs.old.keys }
     ensures pairs { IfOk result (λ _. All IsPair pairs.new.keys) }
-    ensures names { IfOk result (λ _. names pairs.new.keys ≡ firsts same_list (names pairs.old.keys) (name pair.entry ∷ [])) }
+    ensures names { IfOk result (λ _. names pairs.new.keys
+        ≡ firsts same_list (names pairs.old.keys) (name pair.entry ∷ [])) }
     ensures place { IfOk result (λ k. k ≡ place same_list (names pairs.new.keys) (name pair.entry)) }
 {
     let (place, _) = pairs.insert_full(pair)?;
@@ -42,7 +43,8 @@ pub(crate) fn joined<'a>(
 ) -> Result<Term, AllocError>
     requires pairs { All IsPair pairs.old.keys }
     ensures pairs { IfOk result (λ _. All IsPair pairs.new.keys) }
-    ensures names { IfOk result (λ _. names pairs.new.keys ≡ firsts same_list (names pairs.old.keys) (variables (least_tree a.now (b.now ∷ [])))) }
+    ensures names { IfOk result (λ _. names pairs.new.keys
+        ≡ firsts same_list (names pairs.old.keys) (variables (least_tree a.now (b.now ∷ [])))) }
     ensures term { IfOk result (λ t. t ≡ put (placed (names pairs.new.keys)) (least_tree a.now (b.now ∷ []))) }
 {
     let left = a.cells();

@@ -7,7 +7,7 @@ use Rattle.std.specs.Prelude.{nat_eq}
 use Rattle.pp_row.specs.Columns.{trees_of, sets_of, pattern_by}
 use Rattle.pp_lgg.specs.Pairs.{names}
 use Rattle.pp_lgg.proofs.Columns.{same_length, next_column, all_columns, least_again}
-use Rattle.pp_lgg.proofs.Wide.{unions_wide}
+use Rattle.pp_algebra.proofs.WideLeast.{unions_wide}
 use Rattle.pp_lgg.proofs.rows.join.Goals as goal
 
 pub bounds-right-k : goal.bounds-right-k
