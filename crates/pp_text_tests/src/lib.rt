@@ -1,4 +1,4 @@
-//! Tests of tokens, of programs that are read, and of printed texts, by their public calls.
+//! Tests of tokens, of programs that are read, of printed texts, and of words, by their public calls.
 #![tactic(auto)]
 
 #[cfg(test)]

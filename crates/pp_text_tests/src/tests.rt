@@ -2,4 +2,5 @@
 mod printing;
 mod programs;
 mod tokens;
+mod words;
 mod written;

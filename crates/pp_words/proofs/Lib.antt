@@ -1,0 +1,5 @@
+pub mod Numbers
+pub mod Prefixes
+pub mod Walked
+pub mod Once
+pub mod Asked
