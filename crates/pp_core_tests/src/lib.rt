@@ -1,4 +1,4 @@
-//! Tests of `pp_space`, `pp_core` and `pp_path` by their public calls.
+//! Tests of `pp_space`, `pp_core`, `pp_path` and `pp_find` by their public calls.
 #![tactic(auto)]
 
 #[cfg(test)]
