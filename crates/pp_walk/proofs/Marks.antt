@@ -1,0 +1,77 @@
+-- What is met in one turn of a walk: alternatives and built-ins, or one leaf.
+use Rattle.std.specs.Prelude.{OnErr}
+use Rattle.std.proofs.Common.{◌≡◌, ℕ, zero, suc, ◌+◌, ◌-◌, ◌<◌, ◌≤◌, Bool, true, false, cond, List, [], ◌∷◌, ◌++◌, length, Result, Ok, Err, refl, ap, sym, ◌∙◌, subst, arith, append_assoc, append-nil}
+use Rattle.pp_sld.specs.Goals.{Program, Config}
+use Rattle.pp_sld.specs.Ways.{Way, choices, next}
+use Rattle.pp_sld.specs.Trees.{AreSearches}
+use Rattle.pp_sld.specs.Trace.{Mark, tried, ends, trace_all, met, reductions, until}
+use Rattle.pp_sld.specs.Paths.{kids, skip}
+use Rattle.pp_sld.proofs.Trees.{tree, fails_at, choice_tree, none_at_end}
+use Rattle.pp_walk.specs.Moves.{HasChoice, IsDeadAt}
+
+-- so many reductions
+abbrev pub tries : ℕ → List Mark
+tries zero = []
+tries (suc n) = tried ∷ tries n
+
+pub tries-last : (n : ℕ) (ms : List Mark) → tries n ++ tried ∷ ms ≡ tried ∷ (tries n ++ ms)
+tries-last zero ms = refl
+tries-last (suc n) ms = ap (λ x. tried ∷ x) (tries-last n ms)
+
+pub length-tries : (n : ℕ) → length (tries n) ≡ n
+length-tries zero = refl
+length-tries (suc n) = ap suc (length-tries n)
+
+pub met-tries : (n : ℕ) (ms : List Mark) → met (tries n ++ ms) ≡ met ms
+met-tries zero ms = refl
+met-tries (suc n) ms = met-tries n ms
+
+pub reductions-tries : (n : ℕ) → reductions (tries n) ≡ n
+reductions-tries zero = refl
+reductions-tries (suc n) = ap suc (reductions-tries n)
+
+pub reductions-append : (ms ns : List Mark) → reductions (ms ++ ns) ≡ reductions ms + reductions ns
+reductions-append [] ns = omega arith
+reductions-append (tried ∷ ms) ns = omega (arith, reductions-append ms ns)
+reductions-append (ends l ∷ ms) ns = reductions-append ms ns
+
+pub until-tries : (settled : List Mark → Bool) (n : ℕ) (seen rest : List Mark) → until settled seen (tries n ++ rest) ≡ until settled (seen ++ tries n) rest
+until-tries settled zero seen rest = ap (λ x. until settled x rest) (sym (append-nil seen))
+until-tries settled (suc n) seen rest = until-tries settled n (seen ++ tried ∷ []) rest ∙ ap (λ x. until settled x rest) (append_assoc seen (tried ∷ []) (tries n))
+
+-- what was seen stays seen
+pub until-grows : (settled : List Mark → Bool) (seen ms : List Mark) → reductions seen ≤ reductions (until settled seen ms)
+until-grows settled seen [] = omega arith
+until-grows settled seen (tried ∷ ms) = omega (arith, until-grows settled (seen ++ tried ∷ []) ms, reductions-append seen (tried ∷ []))
+until-grows settled seen (ends l ∷ ms) = pick (settled (seen ++ ends l ∷ [])) (until-grows settled (seen ++ ends l ∷ []) ms)
+  where
+    pick : (b : Bool) → reductions (seen ++ ends l ∷ []) ≤ reductions (until settled (seen ++ ends l ∷ []) ms) → reductions seen ≤ reductions (cond b (seen ++ ends l ∷ []) (until settled (seen ++ ends l ∷ []) ms))
+    pick true h = omega (arith, reductions-append seen (ends l ∷ []))
+    pick false h = omega (arith, h, reductions-append seen (ends l ∷ []))
+
+-- alternatives that are passed over
+module _ (clauses : Program) (c : Config) (ws : List Way) (e : next clauses c ≡ choices ws) where
+  pub passed_over : (k n : ℕ) → ((i : ℕ) → k ≤ i → i < k + n → IsDeadAt clauses c i) → trace_all (skip k (kids (tree clauses c))) ≡ tries n ++ trace_all (skip (k + n) (kids (tree clauses c)))
+  passed_over k zero h = ap (λ x. trace_all (skip x (kids (tree clauses c)))) (omega arith)
+  passed_over k (suc n) h =
+      let d = h k (omega arith) (omega arith) in
+      let g : d.0 ≡ ws = cc (d.1, e) in
+      let a : AreSearches clauses d.0 (kids (tree clauses c)) = subst (λ x. AreSearches clauses x (kids (tree clauses c))) (sym g) (choice_tree clauses c ws e).1 in
+      fails_at clauses d.0 (kids (tree clauses c)) k d.2 d.3 d.4 a
+      ∙ ap (λ x. tried ∷ x) (passed_over (suc k) n (λ i p q. h i (omega (arith, p)) (omega (arith, q)))
+      ∙ ap (λ x. tries n ++ trace_all (skip x (kids (tree clauses c)))) (omega arith))
+
+  pub none_left : (k : ℕ) → ((i : ℕ) → k ≤ i → HasChoice clauses c i → IsDeadAt clauses c i) → trace_all (skip k (kids (tree clauses c))) ≡ tries (length ws - k)
+  none_left k h =
+      passed_over k (length ws - k) (λ i p q. h i p (ws, e, omega (arith, p, q)))
+      ∙ ap (λ x. tries (length ws - k) ++ x) (none_at_end clauses ws (kids (tree clauses c)) (k + (length ws - k)) (omega arith) (choice_tree clauses c ws e).1)
+      ∙ append-nil (tries (length ws - k))
+
+-- what is promised where there is no memory
+pub on_err : {A E P : Type 0} (r : Result A E) → P → OnErr r P
+on_err (Ok x) p = tt
+on_err (Err e) p = p
+
+pub map_err : {A E P Q : Type 0} (r : Result A E) → (P → Q) → OnErr r P → OnErr r Q
+map_err (Ok x) f p = tt
+map_err (Err e) f p = f p

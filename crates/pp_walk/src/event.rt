@@ -1,0 +1,18 @@
+//! What a step comes to.
+
+use pp_row::Row;
+
+/// What a step of a search machine comes to. The last three end the branch.
+#[derive(Drop)]
+pub enum Event {
+    /// A built-in was performed.
+    Went,
+    /// A goal with so many alternatives is selected, at least one, and the machine hasn't moved.
+    Choice(u64),
+    /// The selected goal has no alternative, or a built-in didn't hold.
+    Failed,
+    /// An answer with this row.
+    Answer(Row),
+    /// A loose end with this row: its depth is spent, or all its goals wait.
+    Loose(Row),
+}
