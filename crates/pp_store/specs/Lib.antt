@@ -1,0 +1,4 @@
+pub mod Queries
+pub mod Kept
+pub mod Deciding
+pub mod Replacing

@@ -1,0 +1,6 @@
+//! The wake list: the goals that wait for their turn.
+#![tactic(auto)]
+
+mod wake;
+
+pub use wake::Wake;
