@@ -1,0 +1,10 @@
+pub mod Dead
+pub mod Next
+pub mod Numbers
+pub mod Spans
+pub mod Groups
+pub mod Tables
+pub mod Places
+pub mod Goals
+pub mod Counting
+pub mod Tops
