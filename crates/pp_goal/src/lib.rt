@@ -1,0 +1,11 @@
+//! One goal of a body under bindings: what is done with it, and doing it.
+#![tactic(auto)]
+
+mod acts;
+mod arguments;
+mod solving;
+mod split;
+
+pub use acts::{Act, act_on};
+pub use solving::perform;
+pub use split::{split_count, split_value};
