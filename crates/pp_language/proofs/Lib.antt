@@ -9,7 +9,7 @@ pub mod WorkedExamples
 pub mod PartsRead
 pub mod PartsSpelled
 pub mod PartsFormed
-pub mod OneStatement
+pub mod ItemRead
 pub mod OneItems
 pub mod OneFault
 pub mod StatementParts

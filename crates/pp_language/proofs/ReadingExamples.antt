@@ -1,7 +1,6 @@
 -- The worked examples of reading hold.
-use Rattle.std.proofs.Common.{◌≡◌, ℕ, suc, ◌<◌, ◌⊎◌, inl, inr, List, [], refl, arith}
+use Rattle.std.proofs.Common.{ℕ, ◌<◌, inl, inr, [], refl, arith}
 use Rattle.pp_language.specs.Sentences.{clean}
-use Rattle.pp_language.specs.Words.{Word}
 use Rattle.pp_language.specs.Faults.{IsFaultAt, NoQuery}
 use Rattle.pp_language.specs.ReadingExamples.{IntegersAreSpelled, InfersIsNoAtom, QuotesAreDoubled, CommentsAreGaps, PointEndsSentence, EmptyTextLacksQuery, ClausesAreCounted, ArgumentsAreCounted, NamedVariablesComeFirst}
 

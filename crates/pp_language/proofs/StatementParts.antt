@@ -6,11 +6,11 @@ use Rattle.std.proofs.lemmas.Bool.{and_parts}
 use Rattle.pp_language.specs.declared.token.Kind.{Kind}
 use Rattle.pp_language.specs.declared.token.Kind.TheVariants.{Integer, Atom, Quoted, Infers, Variable, Left, Right, OpenSquare, CloseSquare, Comma, Point, Range, Neck, Ask, Equals, InDomain, Less, AtMost, Equal, Differ}
 use Rattle.pp_language.specs.Words.{Word, is_atom_kind, is_name_kind, is_built_in, atom_of}
-use Rattle.pp_language.specs.Phrases.{Phrase, integer_phrase, variable_phrase, said, count, is_phrase, Part}
+use Rattle.pp_language.specs.Phrases.{Phrase, integer_phrase, variable_phrase, said, count, is_phrase}
 use Rattle.pp_language.specs.PartsOf.{is_mark, is_part, are_parts}
-use Rattle.pp_language.specs.Statements.{Bounds, one_bound, two_bounds, SetPhrase, bare, bracketed, BodyItem, calls, equates, belongs, compares, QueryPhrase, asks_equal, asks_member, asks_infer, Statement, directive, clause, query, bounds_parts, more_bounds_parts, set_parts, body_parts, query_parts, more_items, items_parts, statement_parts, is_comparison, is_saying, is_head, is_body_item, is_query_phrase, some_item, is_statement, Says}
+use Rattle.pp_language.specs.Statements.{Bounds, one_bound, two_bounds, SetPhrase, bare, bracketed, Item, calls, equates, belongs, compares, asks, Statement, directive, clause, query, bounds_parts, more_bounds_parts, set_parts, item_parts, more_items, items_parts, statement_parts, is_comparison, is_callable, is_head, is_item, is_statement, Says}
 use Rattle.pp_language.proofs.PartsRead.{same_parts}
-use Rattle.pp_language.proofs.OneItems.{statement-is}
+use Rattle.pp_language.proofs.OneItems.{statement-is, clause_is, query_is}
 
 both : (a b : Bool) → a ≡ true → b ≡ true → (a && b) ≡ true
 both true true h g = refl
@@ -55,10 +55,10 @@ comparison_is_mark Ask h = absurd (cc)
 comparison_is_mark Equals h = absurd (cc)
 comparison_is_mark InDomain h = absurd (cc)
 
-pub saying_is_phrase : (p : Phrase) → is_saying p ≡ true → is_phrase p ≡ true
-saying_is_phrase (integer_phrase bs) h = refl
-saying_is_phrase (variable_phrase bs) h = refl
-saying_is_phrase (said w ps) h = h
+pub callable_is_phrase : (p : Phrase) → is_callable p ≡ true → is_phrase p ≡ true
+callable_is_phrase (integer_phrase bs) h = refl
+callable_is_phrase (variable_phrase bs) h = refl
+callable_is_phrase (said w ps) h = h
 
 pub head_is_phrase : (p : Phrase) → is_head p ≡ true → is_phrase p ≡ true
 head_is_phrase (integer_phrase bs) h = refl
@@ -83,28 +83,27 @@ compared_terms true false c h g l = g
 compared_terms false true c h g l = h
 compared_terms false false c h g l = g
 
-body_are : (i : BodyItem) → is_body_item i ≡ true → are_parts (body_parts i) ≡ true
-body_are (calls p) h = both (is_phrase p) true (saying_is_phrase p h) refl
-body_are (equates p q) h = let k = and_parts (is_phrase p) (is_phrase q) h in two_terms (is_phrase p) (is_phrase q) k.0 k.1
-body_are (belongs p s) h = both (is_phrase p) (are_parts (set_parts s)) h (set_are s)
-body_are (compares c p q) h =
+item_are : (i : Item) → is_item i ≡ true → are_parts (item_parts i) ≡ true
+item_are (calls p) h = both (is_phrase p) true (callable_is_phrase p h) refl
+item_are (equates p q) h = let k = and_parts (is_phrase p) (is_phrase q) h in two_terms (is_phrase p) (is_phrase q) k.0 k.1
+item_are (belongs p s) h = both (is_phrase p) (are_parts (set_parts s)) h (set_are s)
+item_are (compares c p q) h =
     let k = and_parts (is_comparison c && is_phrase p) (is_phrase q) h in
     let l = and_parts (is_comparison c) (is_phrase p) k.0 in
     compared_terms (is_mark c) (is_phrase p) (is_phrase q) (comparison_is_mark c l.0) l.1 k.1
+item_are (asks p m) h = both (is_phrase p) true (callable_is_phrase p h) refl
 
-query_are : (i : QueryPhrase) → is_query_phrase i ≡ true → are_parts (query_parts i) ≡ true
-query_are (asks_equal p q) h = let k = and_parts (is_phrase p) (is_phrase q) h in two_terms (is_phrase p) (is_phrase q) k.0 k.1
-query_are (asks_member p s) h = both (is_phrase p) (are_parts (set_parts s)) h (set_are s)
-query_are (asks_infer p m) h = both (is_phrase p) true (saying_is_phrase p h) refl
+more_are : (is : List Item) → list_all is_item is ≡ true → are_parts (more_items is) ≡ true
+more_are [] h = refl
+more_are (i ∷ is) h =
+    let k = and_parts (is_item i) (list_all is_item is) h in
+    all-append is_part (item_parts i) (more_items is) (item_are i k.0) (more_are is k.1)
 
-module _ {I : Type 0} (parts : I → List Part) (fits : I → Bool) (are : (i : I) → fits i ≡ true → are_parts (parts i) ≡ true) where
-  more_are : (is : List I) → list_all fits is ≡ true → are_parts (more_items parts is) ≡ true
-  more_are [] h = refl
-  more_are (i ∷ is) h = let k = and_parts (fits i) (list_all fits is) h in all-append is_part (parts i) (more_items parts is) (are i k.0) (more_are is k.1)
-
-  items_are : (is : List I) → list_all fits is ≡ true → are_parts (items_parts parts is) ≡ true
-  items_are [] h = refl
-  items_are (i ∷ is) h = let k = and_parts (fits i) (list_all fits is) h in all-append is_part (parts i) (more_items parts is) (are i k.0) (more_are is k.1)
+items_are : (is : List Item) → list_all is_item is ≡ true → are_parts (items_parts is) ≡ true
+items_are [] h = refl
+items_are (i ∷ is) h =
+    let k = and_parts (is_item i) (list_all is_item is) h in
+    all-append is_part (item_parts i) (more_items is) (item_are i k.0) (more_are is k.1)
 
 atom_is_name : (k : Kind) → is_atom_kind k ≡ true → is_name_kind k ≡ true
 atom_is_name Atom h = refl
@@ -130,11 +129,11 @@ atom_is_name Differ h = absurd (cc)
 
 pub statement_are : (s : Statement) → is_statement s ≡ true → are_parts (statement_parts s) ≡ true
 statement_are (directive w) h = let k = atom_is_name w.kind h in rw k refl
-statement_are (clause p []) h = both (is_phrase p) true (head_is_phrase p (and_parts (is_head p) true h).0) refl
+statement_are (clause p []) h = both (is_phrase p) true (head_is_phrase p (clause_is p [] h).0) refl
 statement_are (clause p (i ∷ is)) h =
-    let k = and_parts (is_head p) (list_all is_body_item (i ∷ is)) h in
-    both (is_phrase p) (are_parts (items_parts body_parts (i ∷ is))) (head_is_phrase p k.0) (items_are body_parts is_body_item body_are (i ∷ is) k.1)
-statement_are (query is) h = items_are query_parts is_query_phrase query_are is (and_parts (some_item is) (list_all is_query_phrase is) h).1
+    let k = clause_is p (i ∷ is) h in
+    both (is_phrase p) (are_parts (items_parts (i ∷ is))) (head_is_phrase p k.0) (items_are (i ∷ is) k.1)
+statement_are (query is) h = items_are is (query_is is h).1
 
 pub says_once : (ws : List Word) (s t : Statement) → Says ws s → Says ws t → s ≡ t
 says_once ws s t a b =

@@ -66,6 +66,3 @@ limit_text name = line (codes "limit: " ++ name)
 
 abbrev pub length_text : Text
 length_text = limit_text (codes "text")
-
-abbrev pub unbuilt_text : Text
-unbuilt_text = line (codes "not built yet")

@@ -13,6 +13,7 @@ pub mod Keys
 pub mod Examples
 pub mod Phrases
 pub mod Statements
+pub mod Fronts
 pub mod Faults
 pub mod Meanings
 pub mod Limits

@@ -7,8 +7,8 @@ use Rattle.pp_language.specs.declared.limits.TheConstants.{TEXT_LIMIT, CLAUSE_LI
 use Rattle.pp_language.specs.Texts.{Text}
 use Rattle.pp_language.specs.Programs.{Written}
 use Rattle.pp_language.specs.Phrases.{Phrase, integer_phrase, variable_phrase, said, Phrases, no_phrases, phrase_and, count}
-use Rattle.pp_language.specs.Statements.{BodyItem, calls, equates, belongs, compares, QueryPhrase, asks_equal, asks_member, asks_infer, Statement, directive, clause, query}
-use Rattle.pp_language.specs.Meanings.{keyed_lists, keys_in, said_arguments, body_phrases, query_phrases, written_by}
+use Rattle.pp_language.specs.Statements.{Item, calls, equates, belongs, compares, asks, Statement, directive, clause, query}
+use Rattle.pp_language.specs.Meanings.{keyed_lists, keys_in, said_arguments, item_phrases, written_by}
 use Rattle.pp_language.specs.Faults.{IsInGrammar}
 
 -- the text is longer than any that is read
@@ -29,26 +29,22 @@ abbrev mutual
   are_too_wide no_phrases = false
   are_too_wide (phrase_and p ps) = is_too_wide p || are_too_wide ps
 
-abbrev pub body_too_wide : BodyItem → Bool
-body_too_wide (calls p) = is_too_wide p
-body_too_wide (equates p q) = is_too_wide p || is_too_wide q
-body_too_wide (belongs p s) = is_too_wide p
-body_too_wide (compares k p q) = is_too_wide p || is_too_wide q
-
-abbrev pub query_too_wide : QueryPhrase → Bool
-query_too_wide (asks_equal p q) = is_too_wide p || is_too_wide q
-query_too_wide (asks_member p s) = is_too_wide p
-query_too_wide (asks_infer p m) = is_too_wide p
+abbrev pub item_too_wide : Item → Bool
+item_too_wide (calls p) = is_too_wide p
+item_too_wide (equates p q) = is_too_wide p || is_too_wide q
+item_too_wide (belongs p s) = is_too_wide p
+item_too_wide (compares k p q) = is_too_wide p || is_too_wide q
+item_too_wide (asks p m) = is_too_wide p
 
 -- how many variables stand in these phrases
 abbrev pub variable_count : List Phrases → ℕ
 variable_count pss = length (keys_in (keyed_lists [] 0 pss))
 
-abbrev pub goal_count : List QueryPhrase → ℕ
+-- how many annotated goals there are
+abbrev pub goal_count : List Item → ℕ
 goal_count [] = 0
-goal_count (asks_equal p q ∷ is) = goal_count is
-goal_count (asks_member p s ∷ is) = goal_count is
-goal_count (asks_infer p m ∷ is) = suc (goal_count is)
+goal_count (asks p m ∷ is) = suc (goal_count is)
+goal_count (i ∷ is) = goal_count is
 
 abbrev pub when : Bool → Which → Option Which → Option Which
 when b w later = cond b (Some w) later
@@ -58,11 +54,11 @@ abbrev pub passed : ℕ → Statement → Option Which
 passed n (directive w) = None
 passed n (clause p is) =
     when (is_above CLAUSE_LIMIT (suc n)) Clauses
-    (when (is_too_wide p || list_any body_too_wide is) Arity
-    (when (is_above CLAUSE_VARIABLE_LIMIT (variable_count (said_arguments p ∷ map body_phrases is))) Variables None))
+    (when (is_too_wide p || list_any item_too_wide is) Arity
+    (when (is_above CLAUSE_VARIABLE_LIMIT (variable_count (said_arguments p ∷ map item_phrases is))) Variables None))
 passed n (query is) =
-    when (list_any query_too_wide is) Arity
-    (when (is_above QUERY_VARIABLE_LIMIT (variable_count (map query_phrases is))) Variables
+    when (list_any item_too_wide is) Arity
+    (when (is_above QUERY_VARIABLE_LIMIT (variable_count (map item_phrases is))) Variables
     (when (is_above GOAL_LIMIT (goal_count is)) Goals None))
 
 abbrev pub clauses_behind : ℕ → Statement → ℕ

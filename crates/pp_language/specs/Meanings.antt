@@ -10,6 +10,7 @@ use Rattle.pp_algebra.specs.Least.{first, rest}
 use Rattle.pp_algebra.specs.Solve.{equation, membership}
 use Rattle.pp_sld.specs.BuiltIns.{Test, less, at_most, equal, differ, plus, times, indomain}
 use Rattle.pp_sld.specs.Goals.{Predicate, Shape, user, equals, member, test, Goal, Clause}
+use Rattle.pp_sld.specs.Verdicts.{most}
 use Rattle.pp_language.specs.declared.token.Kind.{Kind}
 use Rattle.pp_language.specs.declared.token.Kind.TheVariants.{Atom, Quoted, Variable, Less, AtMost, Equal}
 use Rattle.pp_language.specs.Texts.{Text}
@@ -19,7 +20,7 @@ use Rattle.pp_language.specs.Programs.{QueryItem, solves, infers, Query, Written
 use Rattle.pp_language.specs.Words.{Word, atom_of}
 use Rattle.pp_language.specs.Keys.{Key, key_of, same_key, named_first, texts_of, numbered}
 use Rattle.pp_language.specs.Phrases.{Phrase, integer_phrase, variable_phrase, said, Phrases, no_phrases, phrase_and, count}
-use Rattle.pp_language.specs.Statements.{Bounds, one_bound, two_bounds, SetPhrase, bare, bracketed, BodyItem, calls, equates, belongs, compares, QueryPhrase, asks_equal, asks_member, asks_infer, Statement, directive, clause, query, statement_words}
+use Rattle.pp_language.specs.Statements.{Bounds, one_bound, two_bounds, SetPhrase, bare, bracketed, Item, calls, equates, belongs, compares, asks, Statement, directive, clause, query, statement_words}
 
 -- the integer that digits write, with or without `-` before them
 abbrev pub integer_of : Text → ℤ
@@ -106,34 +107,36 @@ relation_of AtMost = at_most
 relation_of Equal = equal
 relation_of _ = differ
 
-abbrev pub body_phrases : BodyItem → Phrases
-body_phrases (calls p) = said_arguments p
-body_phrases (equates p q) = two_phrases p q
-body_phrases (belongs p s) = phrase_and p no_phrases
-body_phrases (compares k p q) = two_phrases p q
+abbrev pub item_phrases : Item → Phrases
+item_phrases (calls p) = said_arguments p
+item_phrases (equates p q) = two_phrases p q
+item_phrases (belongs p s) = phrase_and p no_phrases
+item_phrases (compares k p q) = two_phrases p q
+item_phrases (asks p m) = said_arguments p
 
-abbrev pub body_shape : List Text → BodyItem → Shape
-body_shape names (calls p) = said_shape names p
-body_shape names (equates p q) = equals
-body_shape names (belongs p s) = member (set_by s)
-body_shape names (compares k p q) = test (relation_of k)
+abbrev pub item_shape : List Text → Item → Shape
+item_shape names (calls p) = said_shape names p
+item_shape names (equates p q) = equals
+item_shape names (belongs p s) = member (set_by s)
+item_shape names (compares k p q) = test (relation_of k)
+item_shape names (asks p m) = said_shape names p
 
-abbrev pub goals_by : List Text → List BodyItem → List (Trees ℕ) → List (Goal ℕ)
+abbrev pub goal_by : List Text → Item → Trees ℕ → Goal ℕ
+goal_by names i ts = record { shape = item_shape names i; arguments = ts }
+
+abbrev pub goals_by : List Text → List Item → List (Trees ℕ) → List (Goal ℕ)
 goals_by names [] tss = []
 goals_by names (i ∷ is) [] = []
-goals_by names (i ∷ is) (ts ∷ tss) = record { shape = body_shape names i; arguments = ts } ∷ goals_by names is tss
+goals_by names (i ∷ is) (ts ∷ tss) = goal_by names i ts ∷ goals_by names is tss
 
-abbrev pub query_phrases : QueryPhrase → Phrases
-query_phrases (asks_equal p q) = two_phrases p q
-query_phrases (asks_member p s) = phrase_and p no_phrases
-query_phrases (asks_infer p m) = said_arguments p
+-- an annotated goal asks in its mode, and any other goal would ask for the most
+abbrev pub item_by : List Text → Item → Trees ℕ → QueryItem
+item_by names (equates p q) ts = solves (equation (first ts) (first (rest ts)))
+item_by names (belongs p s) ts = solves (membership (first ts) (set_by s))
+item_by names (asks p m) ts = infers (goal_by names (asks p m) ts) m
+item_by names i ts = infers (goal_by names i ts) most
 
-abbrev pub item_by : List Text → QueryPhrase → Trees ℕ → QueryItem
-item_by names (asks_equal p q) ts = solves (equation (first ts) (first (rest ts)))
-item_by names (asks_member p s) ts = solves (membership (first ts) (set_by s))
-item_by names (asks_infer p m) ts = infers (record { shape = said_shape names p; arguments = ts }) m
-
-abbrev pub items_by : List Text → List QueryPhrase → List (Trees ℕ) → List QueryItem
+abbrev pub items_by : List Text → List Item → List (Trees ℕ) → List QueryItem
 items_by names [] tss = []
 items_by names (i ∷ is) [] = []
 items_by names (i ∷ is) (ts ∷ tss) = item_by names i ts ∷ items_by names is tss
@@ -145,16 +148,16 @@ head_predicate names (integer_phrase bs) = record { name = 0; arity = 0 }
 head_predicate names (variable_phrase bs) = record { name = 0; arity = 0 }
 head_predicate names (said w ps) = predicate_by names w ps
 
-abbrev pub clause_by : List Text → Phrase → List BodyItem → Predicate × Clause
+abbrev pub clause_by : List Text → Phrase → List Item → Predicate × Clause
 clause_by names p is =
     let head = keyed_all names 0 (said_arguments p) in
-    let bodies = keyed_lists names (blanks_all (said_arguments p)) (map body_phrases is) in
+    let bodies = keyed_lists names (blanks_all (said_arguments p)) (map item_phrases is) in
     let ks = named_first (keys_in (head ∷ bodies)) in
     (head_predicate names p, record { head = numbered ks head; body = goals_by names is (map (numbered ks) bodies) })
 
-abbrev pub query_by : List Text → List QueryPhrase → Query
+abbrev pub query_by : List Text → List Item → Query
 query_by names is =
-    let tss = keyed_lists names 0 (map query_phrases is) in
+    let tss = keyed_lists names 0 (map item_phrases is) in
     let ks = named_first (keys_in tss) in
     record { variables = length ks; named = texts_of ks; items = items_by names is (map (numbered ks) tss) }
 
@@ -165,7 +168,7 @@ clauses_by names (clause p is ∷ ss) = clause_by names p is ∷ clauses_by name
 clauses_by names (query is ∷ ss) = clauses_by names ss
 
 -- the items of the query, which is the only one
-abbrev pub asked_by : List Statement → List QueryPhrase
+abbrev pub asked_by : List Statement → List Item
 asked_by [] = []
 asked_by (directive w ∷ ss) = asked_by ss
 asked_by (clause p is ∷ ss) = asked_by ss

@@ -1,5 +1,5 @@
 -- Worked examples of reading: spelling, white space and comments, sentences, a fault, limits, and what a clause writes.
-use Rattle.std.specs.Prelude.{◌≡◌, ℕ, zero, suc, true, false, List, [], ◌∷◌, ◌-◌, Some, None, codes}
+use Rattle.std.specs.Prelude.{◌≡◌, ℕ, zero, suc, true, false, [], ◌∷◌, ◌-◌, Some, None, codes}
 use Rattle.pp_algebra.specs.Terms.{variable, none, more}
 use Rattle.pp_language.specs.declared.token.Kind.{Kind}
 use Rattle.pp_language.specs.declared.token.Kind.TheVariants.{Integer, Atom, Quoted, Infers, Variable, Point}

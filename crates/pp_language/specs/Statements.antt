@@ -17,21 +17,18 @@ pub data SetPhrase : Type 0 where
   bare : Bounds → SetPhrase
   bracketed : Bounds → List Bounds → SetPhrase
 
-pub data BodyItem : Type 0 where
-  calls : Phrase → BodyItem
-  equates : Phrase → Phrase → BodyItem
-  belongs : Phrase → SetPhrase → BodyItem
-  compares : Kind → Phrase → Phrase → BodyItem
-
-pub data QueryPhrase : Type 0 where
-  asks_equal : Phrase → Phrase → QueryPhrase
-  asks_member : Phrase → SetPhrase → QueryPhrase
-  asks_infer : Phrase → Mode → QueryPhrase
+-- an item of a body or of a query
+pub data Item : Type 0 where
+  calls : Phrase → Item
+  equates : Phrase → Phrase → Item
+  belongs : Phrase → SetPhrase → Item
+  compares : Kind → Phrase → Phrase → Item
+  asks : Phrase → Mode → Item
 
 pub data Statement : Type 0 where
   directive : Word → Statement
-  clause : Phrase → List BodyItem → Statement
-  query : List QueryPhrase → Statement
+  clause : Phrase → List Item → Statement
+  query : List Item → Statement
 
 -- ===== the parts
 
@@ -52,31 +49,27 @@ mode_text most = codes "most"
 mode_text unique = codes "unique"
 mode_text consistent = codes "consistent"
 
-abbrev pub body_parts : BodyItem → List Part
-body_parts (calls p) = term_part p ∷ []
-body_parts (equates p q) = term_part p ∷ mark Equals ∷ term_part q ∷ []
-body_parts (belongs p s) = term_part p ∷ mark InDomain ∷ set_parts s
-body_parts (compares k p q) = term_part p ∷ mark k ∷ term_part q ∷ []
-
-abbrev pub query_parts : QueryPhrase → List Part
-query_parts (asks_equal p q) = term_part p ∷ mark Equals ∷ term_part q ∷ []
-query_parts (asks_member p s) = term_part p ∷ mark InDomain ∷ set_parts s
-query_parts (asks_infer p m) = term_part p ∷ mark Infers ∷ term_part (said (word Atom (mode_text m)) no_phrases) ∷ []
+abbrev pub item_parts : Item → List Part
+item_parts (calls p) = term_part p ∷ []
+item_parts (equates p q) = term_part p ∷ mark Equals ∷ term_part q ∷ []
+item_parts (belongs p s) = term_part p ∷ mark InDomain ∷ set_parts s
+item_parts (compares k p q) = term_part p ∷ mark k ∷ term_part q ∷ []
+item_parts (asks p m) = term_part p ∷ mark Infers ∷ term_part (said (word Atom (mode_text m)) no_phrases) ∷ []
 
 -- behind the first item: a comma before each
-abbrev pub more_items : {I : Type 0} → (I → List Part) → List I → List Part
-more_items parts [] = []
-more_items parts (i ∷ is) = mark Comma ∷ parts i ++ more_items parts is
+abbrev pub more_items : List Item → List Part
+more_items [] = []
+more_items (i ∷ is) = mark Comma ∷ item_parts i ++ more_items is
 
-abbrev pub items_parts : {I : Type 0} → (I → List Part) → List I → List Part
-items_parts parts [] = []
-items_parts parts (i ∷ is) = parts i ++ more_items parts is
+abbrev pub items_parts : List Item → List Part
+items_parts [] = []
+items_parts (i ∷ is) = item_parts i ++ more_items is
 
 abbrev pub statement_parts : Statement → List Part
 statement_parts (directive w) = mark Neck ∷ term_part (said (word Atom (codes "lib")) (phrase_and (said w no_phrases) no_phrases)) ∷ []
 statement_parts (clause p []) = term_part p ∷ []
-statement_parts (clause p (i ∷ is)) = term_part p ∷ mark Neck ∷ items_parts body_parts (i ∷ is)
-statement_parts (query is) = mark Ask ∷ items_parts query_parts is
+statement_parts (clause p (i ∷ is)) = term_part p ∷ mark Neck ∷ items_parts (i ∷ is)
+statement_parts (query is) = mark Ask ∷ items_parts is
 
 abbrev pub statement_words : Statement → List Word
 statement_words s = parts_words (statement_parts s)
@@ -91,10 +84,10 @@ is_comparison Differ = true
 is_comparison _ = false
 
 -- an atom, or an atom with arguments
-abbrev pub is_saying : Phrase → Bool
-is_saying (integer_phrase bs) = false
-is_saying (variable_phrase bs) = false
-is_saying (said name ps) = is_phrase (said name ps)
+abbrev pub is_callable : Phrase → Bool
+is_callable (integer_phrase bs) = false
+is_callable (variable_phrase bs) = false
+is_callable (said name ps) = is_phrase (said name ps)
 
 -- one that is no built-in
 abbrev pub is_head : Phrase → Bool
@@ -102,25 +95,32 @@ is_head (integer_phrase bs) = false
 is_head (variable_phrase bs) = false
 is_head (said name ps) = is_phrase (said name ps) && not (is_built_in (atom_of name.kind name.text) (count ps))
 
-abbrev pub is_body_item : BodyItem → Bool
-is_body_item (calls p) = is_saying p
-is_body_item (equates p q) = is_phrase p && is_phrase q
-is_body_item (belongs p s) = is_phrase p
-is_body_item (compares k p q) = is_comparison k && is_phrase p && is_phrase q
+abbrev pub is_item : Item → Bool
+is_item (calls p) = is_callable p
+is_item (equates p q) = is_phrase p && is_phrase q
+is_item (belongs p s) = is_phrase p
+is_item (compares k p q) = is_comparison k && is_phrase p && is_phrase q
+is_item (asks p m) = is_callable p
 
-abbrev pub is_query_phrase : QueryPhrase → Bool
-is_query_phrase (asks_equal p q) = is_phrase p && is_phrase q
-is_query_phrase (asks_member p s) = is_phrase p
-is_query_phrase (asks_infer p m) = is_saying p
+-- a body asks nothing
+abbrev pub is_body_item : Item → Bool
+is_body_item (asks p m) = false
+is_body_item i = true
 
-abbrev pub some_item : {I : Type 0} → List I → Bool
+-- a query calls and compares nothing
+abbrev pub is_query_item : Item → Bool
+is_query_item (calls p) = false
+is_query_item (compares k p q) = false
+is_query_item i = true
+
+abbrev pub some_item : List Item → Bool
 some_item [] = false
 some_item (i ∷ is) = true
 
 abbrev pub is_statement : Statement → Bool
 is_statement (directive w) = is_atom_kind w.kind
-is_statement (clause p is) = is_head p && list_all is_body_item is
-is_statement (query is) = some_item is && list_all is_query_phrase is
+is_statement (clause p is) = is_head p && list_all is_item is && list_all is_body_item is
+is_statement (query is) = some_item is && list_all is_item is && list_all is_query_item is
 
 abbrev pub is_query : Statement → Bool
 is_query (directive w) = false

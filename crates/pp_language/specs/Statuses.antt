@@ -1,7 +1,7 @@
 -- The exit status of each way in which a run of the program ends.
 use Rattle.std.specs.Prelude.{ℕ}
 use Rattle.pp_language.specs.declared.status.Status.{Status}
-use Rattle.pp_language.specs.declared.status.Status.TheVariants.{Yes, No, Usage, Syntax, Stopped, Limit, ReadFault, WriteFault, Memory, Unbuilt}
+use Rattle.pp_language.specs.declared.status.Status.TheVariants.{Yes, No, Usage, Syntax, Stopped, Limit, ReadFault, WriteFault, Memory}
 
 abbrev pub code_of : Status → ℕ
 code_of Yes = 0
@@ -13,4 +13,3 @@ code_of Limit = 5
 code_of ReadFault = 6
 code_of WriteFault = 7
 code_of Memory = 8
-code_of Unbuilt = 9

@@ -23,8 +23,6 @@ pub enum Status {
     WriteFault,
     /// There was no memory: nothing was written.
     Memory,
-    /// The text is of a form that is not built yet.
-    Unbuilt,
 }
 
 impl Status {
@@ -42,7 +40,6 @@ impl Status {
             Status::ReadFault => 6,
             Status::WriteFault => 7,
             Status::Memory => 8,
-            Status::Unbuilt => 9,
         }
     }
 }

@@ -15,7 +15,7 @@ use Rattle.pp_parse.specs.declared.parts.Part.TheVariants.{Term, Mark}
 use Rattle.pp_parse.specs.declared.parts.Phrase.{Phrase}
 use Rattle.pp_parse.specs.Words.{words_of}
 use Rattle.pp_parse.specs.Seen.{ShowsFirst, ShowsIn, first_word, AreSeen, AreBegun, is_atom}
-use Rattle.pp_parse.specs.Items.{plain_text, atom_in}
+use Rattle.pp_language.specs.Fronts.{plain_text, atom_in}
 
 -- the term at a place is one of the sentence, and its token is the first word of it
 begun_at : (ws : List Word) (qs : List phrases.Part) (ps : List Part) (i : ℕ) (t : Phrase) → AreSeen qs ps → AreBegun ws qs ps → slice_get ps i ≡ Some (Term t)

@@ -12,7 +12,7 @@ use Rattle.pp_language.specs.Statements.{one_bound, two_bounds, bounds_parts}
 use Rattle.pp_language.specs.Meanings.{integer_of, integers_between}
 use Rattle.pp_parse.specs.declared.parts.Part.{Part}
 use Rattle.pp_parse.specs.Seen.{AreSeen}
-use Rattle.pp_parse.specs.Fronts.{mark_in, integer_in, upper_in, bounds_by, bounds_in}
+use Rattle.pp_language.specs.Fronts.{mark_in, integer_in, upper_in, bounds_by, bounds_in}
 use Rattle.pp_parse.specs.Found.{FoundAt}
 use Rattle.pp_parse.specs.Sets.{AreEnds}
 use Rattle.pp_parse.proofs.Fronts.{next_place, Stands, bounds_stand}

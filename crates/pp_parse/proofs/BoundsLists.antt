@@ -6,9 +6,10 @@ use Rattle.pp_language.specs.declared.token.Kind.TheVariants.{OpenSquare, CloseS
 use Rattle.pp_language.specs.Phrases.{Part, term_part, mark}
 use Rattle.pp_language.specs.Statements.{Bounds, SetPhrase, bracketed}
 use Rattle.pp_language.specs.Meanings.{bounds_set, bounds_sets, set_by}
-use Rattle.pp_parse.specs.Fronts.{Front, front_as, mark_in, bounds_in, more_bounds_in, bounds_list_by, bounds_list_in, bracketed_by, set_in}
+use Rattle.pp_language.specs.Fronts.{Front, front_as, mark_in, bounds_in, more_bounds_in, bounds_list_by, bounds_list_in, bracketed_by, set_in}
 use Rattle.pp_parse.specs.Sets.{united}
-use Rattle.pp_parse.proofs.Fronts.{mark_front, next_place, more_behind_comma, bracketed_front, bracketed_list, no_bracketed_list}
+use Rattle.pp_language.proofs.ItemRead.{mark_front}
+use Rattle.pp_parse.proofs.Fronts.{next_place, more_behind_comma, bracketed_front, bracketed_list, no_bracketed_list}
 use Rattle.pp_parse.proofs.Bounds.{mark_room}
 use Rattle.pp_parse.proofs.Ranges.{united_more}
 

@@ -1,63 +1,18 @@
--- Bounds and sets are read in front of parts exactly where they stand there.
+-- Bounds and sets that are read in front of parts stand there.
 use Rattle.std.proofs.Common.{◌≡◌, ℕ, ◌+◌, List, [], ◌∷◌, ◌++◌, drop, Some, None, refl, ap, sym, ◌∙◌, append_assoc}
 use Rattle.std.proofs.lemmas.List.{drop-drop}
 use Rattle.std.proofs.lemmas.Option.{some_pair_parts}
-use Rattle.pp_language.specs.declared.token.Kind.{Kind}
 use Rattle.pp_language.specs.declared.token.Kind.TheVariants.{OpenSquare, CloseSquare, Comma, Range}
 use Rattle.pp_language.specs.Phrases.{integer_phrase, Part, term_part, mark}
-use Rattle.pp_language.specs.Statements.{Bounds, one_bound, two_bounds, SetPhrase, bare, bracketed, bounds_parts, more_bounds_parts, set_parts}
-use Rattle.pp_language.proofs.OneStatement.{IsItemEnd}
-use Rattle.pp_parse.specs.Fronts.{Front, front_as, mark_in, integer_in, upper_in, bounds_by, bounds_in, more_bounds_in, bounds_list_by, bounds_list_in, bracketed_by, set_in}
-
--- a mark in front is the first part
-pub mark_front : (ps : List Part) (k : Kind) → mark_in ps ≡ Some k → ps ≡ mark k ∷ drop 1 ps
-mark_front [] k e = absurd (cc)
-mark_front (term_part p ∷ ps) k e = absurd (cc)
-mark_front (mark h ∷ ps) k e = cc
+use Rattle.pp_language.specs.Statements.{Bounds, one_bound, two_bounds, bare, bracketed, bounds_parts, more_bounds_parts, set_parts}
+use Rattle.pp_language.proofs.ItemRead.{mark_front}
+use Rattle.pp_language.specs.Fronts.{Front, front_as, mark_in, integer_in, upper_in, bounds_in, more_bounds_in, bounds_list_by, bounds_list_in, bracketed_by, set_in}
 
 pub next_place : (i : ℕ) (ps : List Part) → drop (i + 1) ps ≡ drop 1 (drop i ps)
 next_place i ps = sym (drop-drop 1 i ps)
 
--- ===== what stands there is read
-
--- the part in front is no `..`
-abbrev HasNoRange : List Part → Type 0
-HasNoRange ps = mark_in ps ≡ Some Range → ⊥
-
-no_upper : (ps : List Part) → HasNoRange ps → upper_in ps ≡ None
-no_upper [] h = refl
-no_upper (term_part p ∷ ps) h = refl
-no_upper (mark Range ∷ ps) h = absurd (h refl)
-no_upper (mark k ∷ ps) h = refl
-
 pub upper_behind : (ps : List Part) → mark_in ps ≡ Some Range → upper_in ps ≡ integer_in (drop 1 ps)
 upper_behind ps e = ap upper_in (mark_front ps Range e)
-
-pub bounds_read : (b : Bounds) (ps : List Part) → HasNoRange ps → bounds_in (bounds_parts b ++ ps) ≡ Some (b, ps)
-bounds_read (one_bound n) ps h = ap (λ u. bounds_by (Some n) u (term_part (integer_phrase n) ∷ ps)) (no_upper ps h)
-bounds_read (two_bounds n m) ps h = refl
-
-end_no_range : (ps : List Part) → IsItemEnd ps → HasNoRange ps
-end_no_range [] h = λ e. absurd (cc)
-end_no_range (p ∷ ps) h = λ e. let k : mark_in (mark Comma ∷ ps) ≡ Some Range = ap (λ q. mark_in (q ∷ ps)) (sym h) ∙ e in absurd (cc (k))
-
-more_no_range : (bs : List Bounds) (ps : List Part) → HasNoRange (more_bounds_parts bs ++ ps)
-more_no_range [] ps = λ e. absurd (cc)
-more_no_range (b ∷ bs) ps = λ e. absurd (cc)
-
-pub more_bounds_read : (bs : List Bounds) (ps : List Part) → more_bounds_in (more_bounds_parts bs ++ ps) ≡ Some (bs, ps)
-more_bounds_read [] ps = refl
-more_bounds_read (one_bound n ∷ []) ps = refl
-more_bounds_read (one_bound n ∷ b ∷ bs) ps = ap (front_as (λ cs. one_bound n ∷ cs)) (more_bounds_read (b ∷ bs) ps)
-more_bounds_read (two_bounds n m ∷ bs) ps = ap (front_as (λ cs. two_bounds n m ∷ cs)) (more_bounds_read bs ps)
-
-pub set_read : (s : SetPhrase) (ps : List Part) → IsItemEnd ps → set_in (set_parts s ++ ps) ≡ Some (s, ps)
-set_read (bare (one_bound n)) ps h = ap (front_as bare) (bounds_read (one_bound n) ps (end_no_range ps h))
-set_read (bare (two_bounds n m)) ps h = refl
-set_read (bracketed b bs) ps h =
-    ap (λ qs. bracketed_by (bounds_in qs)) (append_assoc (bounds_parts b) (more_bounds_parts bs) ps)
-    ∙ ap bracketed_by (bounds_read b (more_bounds_parts bs ++ ps) (more_no_range bs ps))
-    ∙ ap (front_as (bracketed b)) (more_bounds_read bs ps)
 
 -- ===== what is read stands there
 

@@ -13,9 +13,8 @@ pub mod Bounds
 pub mod Ranges
 pub mod BoundsLists
 pub mod FoundItems
-pub mod FoundQueryItems
 pub mod Begun
-pub mod ItemsRead
+pub mod ItemStands
 pub mod ItemLists
 pub mod Heads
 pub mod LaidOut

@@ -10,7 +10,7 @@ use Rattle.pp_parse.specs.declared.parts.Part.{Part}
 use Rattle.pp_parse.specs.declared.parts.Part.TheVariants.{Term, Mark}
 use Rattle.pp_parse.specs.declared.parts.Phrase.{Phrase}
 use Rattle.pp_parse.specs.Seen.{ShowsIn, IsSeen, AreSeen}
-use Rattle.pp_parse.specs.Fronts.{mark_in, has_term}
+use Rattle.pp_language.specs.Fronts.{mark_in, has_term}
 
 pub got_some : {X : Type 0} (xs : List X) (i : ℕ) (r : Bor X) → IsItemAt xs i (Some r) → slice_get xs i ≡ Some r.now
 got_some xs i r h = slice_get-get_or xs i r.now h.3.0 ∙ ap Some (sym h.1)

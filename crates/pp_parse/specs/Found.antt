@@ -1,7 +1,7 @@
 -- What the code finds at a place among parts.
 use Rattle.std.specs.Prelude.{◌≡◌, ℕ, ◌<◌, ◌≤◌, List, length, drop, Option, Some, None}
 use Rattle.pp_language.specs.Phrases.{Part}
-use Rattle.pp_parse.specs.Fronts.{Front}
+use Rattle.pp_language.specs.Fronts.{Front}
 
 -- what stands at the place, and the place behind it; or nothing stands there
 abbrev pub FoundAt : {I R : Type 0} → (List Part → Front I) → (I → R → Type 0) → List Part → ℕ → Option (R × ℕ) → Type 0

@@ -4,7 +4,6 @@ pub mod Parts
 pub mod Leaves
 pub mod Reading
 pub mod Seen
-pub mod Fronts
 pub mod Found
 pub mod Sets
 pub mod Items

@@ -1,17 +1,18 @@
 //! Items of a statement at a place among the parts of a sentence.
 ghost use Rattle.std.specs.Prelude.{◌≡◌, ◌+◌, ◌≤◌, All, List, length, drop, IfOk, option_map, option_copied, slice_get};
+ghost use Rattle.std.specs.List.{list_all};
 ghost use Rattle.pp_language.specs.Texts.{part};
 ghost use Rattle.pp_language.specs.Tokens.{IsTokenOf};
 ghost use Rattle.pp_language.specs.Phrases as phrases;
 ghost use Rattle.pp_term.specs.Meanings.{mode_of};
 ghost use Rattle.pp_parse.specs.Words.{words_of};
 ghost use Rattle.pp_parse.specs.Seen.{AreSeen, AreBegun, is_atom};
-ghost use Rattle.pp_parse.specs.Fronts.{set_in};
-ghost use Rattle.pp_parse.specs.Items.{operator_of, operator_in, term_in, saying_in, body_in, plain_text, atom_in, mode_named, mode_in, infer_in, query_in};
+ghost use Rattle.pp_language.specs.Fronts.{set_in, term_in, callable_in, plain_text, atom_in, mode_named, mode_in, infer_in, item_in};
+ghost use Rattle.pp_parse.specs.Items.{operator_of, operator_in};
 ghost use Rattle.pp_parse.specs.Found.{FoundAt};
-ghost use Rattle.pp_parse.specs.Layouts.{IsMember, IsBodyEntry, IsQueryEntry};
+ghost use Rattle.pp_parse.specs.Layouts.{IsMember, IsEntry, is_body_entry, is_query_entry};
 
-use crate::lookahead::{has_saying, has_term, mark_at, term_at};
+use crate::lookahead::{has_callable, has_term, mark_at, term_at};
 use crate::parts::{Part, Phrase};
 use crate::sets::set_at;
 use crate::texts::{is_same, text_of};
@@ -81,13 +82,13 @@ fn with_term(parts: &[Part], at: usize, entry: Entry) -> Option<(Entry, usize)>
 }
 
 /// The entry, where an atom stands at the place, with arguments or without.
-fn with_saying(parts: &[Part], at: usize, entry: Entry) -> Option<(Entry, usize)>
+fn with_callable(parts: &[Part], at: usize, entry: Entry) -> Option<(Entry, usize)>
     ghost qs: { List phrases.Part }
     requires seen { AreSeen qs parts.now }
     requires within { at ≤ length parts.now }
-    ensures { FoundAt saying_in (λ _ e. e ≡ entry) qs at result }
+    ensures { FoundAt callable_in (λ _ e. e ≡ entry) qs at result }
 {
-    if has_saying(parts, at) {
+    if has_callable(parts, at) {
         Some((entry, at + 1))
     } else {
         None
@@ -110,30 +111,6 @@ fn member_at(
         return Ok(None);
     };
     Ok(Some((Entry::Member(term, set), next)))
-}
-
-/// The item of a body at a place.
-pub(crate) fn body_item_at(
-    alloc: Global,
-    parts: &[Part],
-    at: usize,
-) -> Result<Option<(Entry, usize)>, AllocError>
-    ghost qs: { List phrases.Part }
-    requires seen { AreSeen qs parts.now }
-    requires within { at ≤ length parts.now }
-    ensures { IfOk result (FoundAt body_in (IsBodyEntry at) qs at) }
-{
-    if !has_term(parts, at) {
-        return Ok(None);
-    }
-    match operator_at(parts, at + 1) {
-        Operator::Equals => Ok(with_term(parts, at + 2, Entry::Equate(at, at + 2))),
-        Operator::InDomain => member_at(alloc, parts, at, at + 2),
-        Operator::Compares(relation) => {
-            Ok(with_term(parts, at + 2, Entry::Compare(relation, at, at + 2)))
-        }
-        Operator::Infers | Operator::Other => { Ok(with_saying(parts, at, Entry::Call(at))) }
-    }
 }
 
 /// Whether the term is an atom without arguments.
@@ -202,17 +179,17 @@ fn infer_at(text: &[u8], tokens: &[Token], parts: &[Part], at: usize) -> Option<
     requires begun { AreBegun (words_of text.now tokens.now) qs parts.now }
     requires tokens { All (IsTokenOf text.now) tokens.now }
     requires within { at + 2 ≤ length parts.now }
-    ensures { FoundAt infer_in (IsQueryEntry at) qs at result }
+    ensures { FoundAt infer_in (IsEntry at) qs at result }
 {
-    if !has_saying(parts, at) {
+    if !has_callable(parts, at) {
         return None;
     }
     let mode = mode_at(text, tokens, parts, at + 2)?;
     Some((Entry::Infer(at, mode), at + 3))
 }
 
-/// The item of a query at a place.
-pub(crate) fn query_item_at(
+/// The item at a place.
+pub(crate) fn item_at(
     alloc: Global,
     text: &[u8],
     tokens: &[Token],
@@ -224,7 +201,7 @@ pub(crate) fn query_item_at(
     requires begun { AreBegun (words_of text.now tokens.now) qs parts.now }
     requires tokens { All (IsTokenOf text.now) tokens.now }
     requires within { at ≤ length parts.now }
-    ensures { IfOk result (FoundAt query_in (IsQueryEntry at) qs at) }
+    ensures { IfOk result (FoundAt item_in (IsEntry at) qs at) }
 {
     if !has_term(parts, at) {
         return Ok(None);
@@ -232,8 +209,36 @@ pub(crate) fn query_item_at(
     match operator_at(parts, at + 1) {
         Operator::Equals => Ok(with_term(parts, at + 2, Entry::Equate(at, at + 2))),
         Operator::InDomain => member_at(alloc, parts, at, at + 2),
+        Operator::Compares(relation) => {
+            Ok(with_term(parts, at + 2, Entry::Compare(relation, at, at + 2)))
+        }
         Operator::Infers => Ok(infer_at(text, tokens, parts, at)),
-        Operator::Compares(_) => Ok(None),
-        Operator::Other => Ok(None),
+        Operator::Other => Ok(with_callable(parts, at, Entry::Call(at))),
     }
+}
+
+fn is_body_entry(entry: &Entry) -> bool
+    ensures { result ≡ is_body_entry entry.now }
+{
+    !matches!(entry, Entry::Infer(_, _))
+}
+
+fn is_query_entry(entry: &Entry) -> bool
+    ensures { result ≡ is_query_entry entry.now }
+{
+    !matches!(entry, Entry::Call(_) | Entry::Compare(_, _, _))
+}
+
+/// Whether a body may hold the items: none is an annotated goal.
+pub(crate) fn are_body_items(entries: &[Entry]) -> bool
+    ensures { result ≡ list_all is_body_entry entries.now }
+{
+    entries.iter().all(is_body_entry)
+}
+
+/// Whether a query may hold the items: none is a call or a comparison.
+pub(crate) fn are_query_items(entries: &[Entry]) -> bool
+    ensures { result ≡ list_all is_query_entry entries.now }
+{
+    entries.iter().all(is_query_entry)
 }

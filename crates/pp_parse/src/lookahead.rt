@@ -4,7 +4,7 @@ ghost use Rattle.pp_algebra.specs.Members.{IsInteger};
 ghost use Rattle.pp_language.specs.Phrases as phrases;
 ghost use Rattle.pp_language.specs.Meanings.{integer_of};
 ghost use Rattle.pp_parse.specs.Seen.{AreSeen, ShowsIn};
-ghost use Rattle.pp_parse.specs.Fronts.{mark_in, integer_in, has_term, has_saying};
+ghost use Rattle.pp_language.specs.Fronts.{mark_in, integer_in, has_term, has_callable};
 
 use crate::parts::{Part, Phrase};
 use pp_language::Kind;
@@ -41,10 +41,10 @@ pub(crate) fn has_term(parts: &[Part], at: usize) -> bool
     term_at(parts, at).is_some()
 }
 
-pub(crate) fn has_saying(parts: &[Part], at: usize) -> bool
+pub(crate) fn has_callable(parts: &[Part], at: usize) -> bool
     ghost qs: { List phrases.Part }
     requires { AreSeen qs parts.now }
-    ensures { result ≡ has_saying (drop at qs) }
+    ensures { result ≡ has_callable (drop at qs) }
 {
     let Some(term) = term_at(parts, at) else {
         return false;

@@ -6,7 +6,7 @@ ghost use Rattle.pp_language.specs.Phrases as phrases;
 ghost use Rattle.pp_language.specs.Meanings.{integer_of, integers_between, bounds_set, bounds_sets, set_by};
 ghost use Rattle.pp_term.specs.Meanings.{members_by};
 ghost use Rattle.pp_parse.specs.Seen.{AreSeen};
-ghost use Rattle.pp_parse.specs.Fronts.{mark_in, upper_in, bounds_in, bounds_list_in, set_in};
+ghost use Rattle.pp_language.specs.Fronts.{mark_in, upper_in, bounds_in, bounds_list_in, set_in};
 ghost use Rattle.pp_parse.specs.Found.{FoundAt};
 ghost use Rattle.pp_parse.specs.Sets.{AreEnds, united};
 

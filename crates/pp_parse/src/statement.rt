@@ -7,14 +7,14 @@ ghost use Rattle.pp_language.specs.Tokens.{IsTokenOf};
 ghost use Rattle.pp_language.specs.Words.{Word, is_built_in};
 ghost use Rattle.pp_language.specs.Phrases as phrases;
 ghost use Rattle.pp_language.specs.PartsOf.{are_parts};
-ghost use Rattle.pp_language.specs.Statements.{BodyItem, Statement, directive, clause, body_parts, query_parts, statement_parts, is_body_item, is_query_phrase, is_statement, Says};
+ghost use Rattle.pp_language.specs.Statements.{Item, Statement, directive, clause, statement_parts, is_statement, Says};
 ghost use Rattle.pp_parse.specs.Words.{words_of, texts_in};
 ghost use Rattle.pp_parse.specs.Parts.{AreRead};
 ghost use Rattle.pp_parse.specs.Seen.{AreSeen, AreBegun, IsNamed};
 ghost use Rattle.pp_parse.specs.Items.{has_head};
-ghost use Rattle.pp_parse.specs.Layouts.{IsBodyEntry, IsQueryEntry, IsLayout, IsLaidOut, HasNoItems, HasItems};
+ghost use Rattle.pp_parse.specs.Layouts.{IsLayout, IsLaidOut, HasNoItems, HasItems};
 
-use crate::items::{Entry, body_item_at, query_item_at};
+use crate::items::{Entry, are_body_items, are_query_items, item_at};
 use crate::lookahead::{has_mark, term_at};
 use crate::parts::Part;
 use crate::texts::{is_same, text_of};
@@ -30,35 +30,8 @@ pub enum Layout {
     Query(Vec<Entry>),
 }
 
-/// The items of a body, which stand from a place to the end of the sentence.
-fn body_items(alloc: Global, parts: &[Part], at: usize) -> Result<Option<Vec<Entry>>, AllocError>
-    ghost qs: { List phrases.Part }
-    requires seen { AreSeen qs parts.now }
-    requires formed { IsTrue (are_parts qs) }
-    requires within { at ≤ length parts.now }
-    ensures { IfOk result (λ r. MatchOption r
-        (HasNoItems body_parts is_body_item (drop at qs))
-        (λ es. HasItems body_parts is_body_item IsBodyEntry at (drop at qs) es.items)) }
-{
-    let mut entries = Vec::new(alloc);
-    let mut place = at;
-    loop {
-        let Some((entry, next)) = body_item_at(alloc, parts, place)? else {
-            return Ok(None);
-        };
-        entries.push(entry)?;
-        if next == parts.len() {
-            return Ok(Some(entries));
-        }
-        if !has_mark(parts, next, Kind::Comma) {
-            return Ok(None);
-        }
-        place = next + 1;
-    }
-}
-
-/// The items of a query, which stand from a place to the end of the sentence.
-fn query_items(
+/// The items that stand from a place to the end of the sentence, with commas between them.
+fn items(
     alloc: Global,
     text: &[u8],
     tokens: &[Token],
@@ -72,13 +45,13 @@ fn query_items(
     requires tokens { All (IsTokenOf text.now) tokens.now }
     requires within { at ≤ length parts.now }
     ensures { IfOk result (λ r. MatchOption r
-        (HasNoItems query_parts is_query_phrase (drop at qs))
-        (λ es. HasItems query_parts is_query_phrase IsQueryEntry at (drop at qs) es.items)) }
+        (HasNoItems (drop at qs))
+        (λ es. HasItems at (drop at qs) es.items)) }
 {
     let mut entries = Vec::new(alloc);
     let mut place = at;
     loop {
-        let Some((entry, next)) = query_item_at(alloc, text, tokens, parts, place)? else {
+        let Some((entry, next)) = item_at(alloc, text, tokens, parts, place)? else {
             return Ok(None);
         };
         entries.push(entry)?;
@@ -119,13 +92,21 @@ fn is_head(names: &Names, parts: &[Part]) -> bool
 }
 
 /// The clause that the parts are.
-fn clause(alloc: Global, names: &Names, parts: &[Part]) -> Result<Option<Layout>, AllocError>
+fn clause(
+    alloc: Global,
+    text: &[u8],
+    tokens: &[Token],
+    names: &Names,
+    parts: &[Part],
+) -> Result<Option<Layout>, AllocError>
     ghost qs: { List phrases.Part }
     requires seen { AreSeen qs parts.now }
     requires formed { IsTrue (are_parts qs) }
+    requires begun { AreBegun (words_of text.now tokens.now) qs parts.now }
+    requires tokens { All (IsTokenOf text.now) tokens.now }
     requires named { IsNamed names.now qs parts.now }
     ensures { IfOk result (λ r. MatchOption r
-        ((p : phrases.Phrase) (xs : List BodyItem) → IsTrue (is_statement (clause p xs)) → qs ≡ statement_parts (clause p xs) → ⊥)
+        ((p : phrases.Phrase) (xs : List Item) → IsTrue (is_statement (clause p xs)) → qs ≡ statement_parts (clause p xs) → ⊥)
         (IsLaidOut qs)) }
 {
     if !is_head(names, parts) {
@@ -137,9 +118,12 @@ fn clause(alloc: Global, names: &Names, parts: &[Part]) -> Result<Option<Layout>
     if !has_mark(parts, 1, Kind::Neck) {
         return Ok(None);
     }
-    let Some(entries) = body_items(alloc, parts, 2)? else {
+    let Some(entries) = items(alloc, text, tokens, parts, 2)? else {
         return Ok(None);
     };
+    if !are_body_items(&entries) {
+        return Ok(None);
+    }
     Ok(Some(Layout::Clause(entries)))
 }
 
@@ -162,11 +146,14 @@ fn clause_or_query(
         (IsLaidOut qs)) }
 {
     if !has_mark(parts, 0, Kind::Ask) {
-        return clause(alloc, names, parts);
+        return clause(alloc, text, tokens, names, parts);
     }
-    let Some(entries) = query_items(alloc, text, tokens, parts, 1)? else {
+    let Some(entries) = items(alloc, text, tokens, parts, 1)? else {
         return Ok(None);
     };
+    if !are_query_items(&entries) {
+        return Ok(None);
+    }
     Ok(Some(Layout::Query(entries)))
 }
 

@@ -11,7 +11,8 @@ use std::alloc::{AllocError, Global};
 
 /// Appends the columns.
 fn write_columns(out: &mut Vec<u8>, names: &Names, columns: &[Term]) -> Result<(), AllocError>
-    ensures { OnOk result (out.new.items ≡ out.old.items ++ joined (codes ", ") (column_texts names.now (trees_of columns.now))) }
+    ensures { OnOk result (out.new.items
+        ≡ out.old.items ++ joined (codes ", ") (column_texts names.now (trees_of columns.now))) }
 {
     let mut separator = b"".as_slice();
     for column in columns {

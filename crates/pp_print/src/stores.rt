@@ -21,7 +21,8 @@ fn write_named_line(
     name: u32,
     term: &Term,
 ) -> Result<(), AllocError>
-    ensures { OnOk result (out.new.items ≡ out.old.items ++ line (name_at names.now name ++ codes " = " ++ term_text names.now term.now)) }
+    ensures { OnOk result (out.new.items
+        ≡ out.old.items ++ line (name_at names.now name ++ codes " = " ++ term_text names.now term.now)) }
 {
     out.extend_from_slice(name_text(names, name))?;
     out.extend_from_slice(b" = ")?;
@@ -37,7 +38,8 @@ fn write_named(
     named: &[u32],
     columns: &[Term],
 ) -> Result<(), AllocError>
-    ensures { OnOk result (out.new.items ≡ out.old.items ++ lines (named_lines names.now (map (name_at names.now) named.now) (trees_of columns.now))) }
+    ensures { OnOk result (out.new.items
+        ≡ out.old.items ++ lines (named_lines names.now (map (name_at names.now) named.now) (trees_of columns.now))) }
 {
     for (name, column) in named.iter().zip(columns) {
         write_named_line(out, names, *name, column)?;
@@ -75,7 +77,8 @@ fn first_columns(columns: &[Term], count: usize) -> &[Term]
 
 /// Appends a line for each variable that occurs in the first columns and has a finite domain.
 fn write_domains(out: &mut Vec<u8>, store: &Row, count: usize) -> Result<(), AllocError>
-    ensures { OnOk result (out.new.items ≡ out.old.items ++ lines (domain_lines (first_columns count store.now.columns) 0 store.now.domains)) }
+    ensures { OnOk result (out.new.items
+        ≡ out.old.items ++ lines (domain_lines (first_columns count store.now.columns) 0 store.now.domains)) }
 {
     let domains = store.domains();
     let columns = first_columns(store.columns(), count);
@@ -120,7 +123,8 @@ pub fn store_text(
     unfinished: &[u32],
     stopped: bool,
 ) -> Result<Vec<u8>, AllocError>
-    ensures { IfOk result (λ t. t.items ≡ store_text names.now (map (name_at names.now) query.now.named) store.now unfinished.now stopped) }
+    ensures { IfOk result (λ t. t.items
+        ≡ store_text names.now (map (name_at names.now) query.now.named) store.now unfinished.now stopped) }
 {
     let named = query.named.as_slice();
     let mut out = Vec::new(alloc);

@@ -1,19 +1,13 @@
--- The words of the call that is built are words of the command `alone`.
-use Rattle.std.proofs.Common.{◌≡◌, List, refl, sym, ◌∙◌, subst}
-use Rattle.std.specs.Prelude.{[], ◌∷◌, codes}
-use Rattle.pp_language.specs.declared.command.CommandKind.TheVariants.{Alone}
+-- The words that are served so far are words of the command `alone`.
+use Rattle.std.proofs.Common.{◌≡◌, List}
 use Rattle.pp_language.specs.declared.command.Command.{Command}
 use Rattle.pp_language.specs.Texts.{Text}
-use Rattle.pp_language.specs.Commands.{AreWordsOf, AreWordsOfAlone}
-use Rattle.pp_language.proofs.CommandsMade.{asked_made}
-use Rattle.pp_propagation.specs.Replies.{plain, AreBuiltWords}
-
-plain_words : AreWordsOf (codes "alone" ∷ []) plain
-plain_words = asked_made (codes "alone" ∷ []) plain refl
+use Rattle.pp_language.specs.Commands.{AreWordsOfAlone}
+use Rattle.pp_language.proofs.CommandsRead.{one_command}
+use Rattle.pp_propagation.specs.Replies.{AreBuiltWords}
 
 pub built_once : (words : List Text) (c d : Command) → AreBuiltWords words c → AreBuiltWords words d → c ≡ d
-built_once words c d h k = h.1 ∙ sym k.1
+built_once words c d h k = one_command words c d h.0.0 k.0.0
 
 pub built_are_words : (words : List Text) (c : Command) → AreBuiltWords words c → AreWordsOfAlone words c
-built_are_words words c h =
-    subst (λ (x : Command). AreWordsOfAlone words x) (sym h.1) (subst (λ ws. AreWordsOfAlone ws plain) (sym h.0) (plain_words, refl))
+built_are_words words c h = h.0

@@ -17,7 +17,7 @@ use Rattle.pp_language.specs.declared.which.Which.{Which}
 use Rattle.pp_language.proofs.OneFault.{grammar_has_no_fault, one_fault, one_program, one_limit, not_both}
 use Rattle.pp_language.proofs.StatementParts.{says_once}
 use Rattle.pp_propagation.specs.Runs.{Run, IsRun}
-use Rattle.pp_propagation.specs.Replies.{status_of, answer_of, summary_of, IsBuilt, RunsAs, IsReplyWithin, faulty, limited, unbuilt, answered, IsReplyToText, too_long, within, IsSummary, IsReplyBy, IsReply, usage, served}
+use Rattle.pp_propagation.specs.Replies.{status_of, answer_of, summary_of, RunsAs, IsReplyWithin, faulty, limited, answered, IsReplyToText, too_long, within, IsSummary, IsReplyBy, IsReply, usage, served}
 use Rattle.pp_propagation.proofs.Exists.{run_once}
 
 abbrev Same : Status → Text → Status → Text → Type 0
@@ -54,20 +54,13 @@ module _ (settings : Settings) (told text : Text) (s t : Status) (b c : Text) wh
   within_once : IsReplyWithin settings told text s b → IsReplyWithin settings told text t c → Same s b t c
   within_once (faulty j f e x) (faulty k g d y) = (e ∙ sym d, x ∙ ap (λ k. syntax_text k) (one_fault text j k f g) ∙ sym y)
   within_once (faulty j f e x) (limited v g d y) = absurd (no_limit_fault text v j g f)
-  within_once (faulty j f e x) (unbuilt v g u d y) = absurd (no_fault text v j g f)
-  within_once (faulty j f e x) (answered v q g u d y) = absurd (no_fault text v j g.writes f)
+  within_once (faulty j f e x) (answered v q g d y) = absurd (no_fault text v j g.writes f)
   within_once (limited w f e x) (faulty k g d y) = absurd (no_limit_fault text w k f g)
   within_once (limited w f e x) (limited v g d y) = (e ∙ sym d, x ∙ ap (λ z. limit_text (which_name z)) (one_limit says_once text w v f g) ∙ sym y)
-  within_once (limited w f e x) (unbuilt v g u d y) = absurd (no_limit text v w g f)
-  within_once (limited w f e x) (answered v q g u d y) = absurd (no_limit text v w g.writes f)
-  within_once (unbuilt w f n e x) (faulty k g d y) = absurd (no_fault text w k f g)
-  within_once (unbuilt w f n e x) (limited v g d y) = absurd (no_limit text w v f g)
-  within_once (unbuilt w f n e x) (unbuilt v g u d y) = (e ∙ sym d, x ∙ sym y)
-  within_once (unbuilt w f n e x) (answered v q g u d y) = absurd (n (subst IsBuilt (one_written text v w g.writes f) u))
-  within_once (answered w r f n e x) (faulty k g d y) = absurd (no_fault text w k f.writes g)
-  within_once (answered w r f n e x) (limited v g d y) = absurd (no_limit text w v f.writes g)
-  within_once (answered w r f n e x) (unbuilt v g u d y) = absurd (u (subst IsBuilt (one_written text w v f.writes g) n))
-  within_once (answered w r f n e x) (answered v q g u d y) = both_answered w v r q f g e d x y
+  within_once (limited w f e x) (answered v q g d y) = absurd (no_limit text v w g.writes f)
+  within_once (answered w r f e x) (faulty k g d y) = absurd (no_fault text w k f.writes g)
+  within_once (answered w r f e x) (limited v g d y) = absurd (no_limit text w v f.writes g)
+  within_once (answered w r f e x) (answered v q g d y) = both_answered w v r q f g e d x y
 
   text_once : IsReplyToText settings told text s b → IsReplyToText settings told text t c → Same s b t c
   text_once (too_long l e x) (too_long m d y) = (e ∙ sym d, x ∙ sym y)

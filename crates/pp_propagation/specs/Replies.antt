@@ -1,23 +1,21 @@
 -- The reply: the status and the bytes that words, a text and what the watchers told call for.
 use Rattle.std.specs.Prelude.{◌≡◌, ℕ, true, false, cond, List, [], ◌∷◌, ◌++◌, length, codes}
-use Rattle.pp_algebra.specs.Terms.{Trees}
 use Rattle.pp_algebra.specs.Rows.{Row}
-use Rattle.pp_sld.specs.Goals.{Predicate, user, Clause, program_of}
-use Rattle.pp_sld.specs.Verdicts.{most}
+use Rattle.pp_sld.specs.Goals.{program_of}
 use Rattle.pp_language.specs.declared.command.CommandKind.{CommandKind}
-use Rattle.pp_language.specs.declared.command.CommandKind.TheVariants.{Alone, Make}
+use Rattle.pp_language.specs.declared.command.CommandKind.TheVariants.{Make}
 use Rattle.pp_language.specs.declared.command.Settings.{Settings}
 use Rattle.pp_language.specs.declared.command.Command.{Command}
 use Rattle.pp_language.specs.declared.status.Status.{Status}
-use Rattle.pp_language.specs.declared.status.Status.TheVariants.{Yes, No, Usage, Syntax, Stopped, Limit, Unbuilt}
+use Rattle.pp_language.specs.declared.status.Status.TheVariants.{Yes, No, Usage, Syntax, Stopped, Limit}
 use Rattle.pp_language.specs.declared.which.Which.{Which}
 use Rattle.pp_language.specs.Texts.{Text}
-use Rattle.pp_language.specs.Programs.{infers, Written}
+use Rattle.pp_language.specs.Programs.{Written}
 use Rattle.pp_language.specs.Faults.{IsSyntaxFault}
 use Rattle.pp_language.specs.Limits.{IsTooLong, Writes, Passes}
-use Rattle.pp_language.specs.Commands.{settings_by}
+use Rattle.pp_language.specs.Commands.{AreWordsOfAlone}
 use Rattle.pp_language.specs.Generator.{make_text}
-use Rattle.pp_language.specs.Answers.{store_text, no_text, usage_text, syntax_text, which_name, limit_text, length_text, unbuilt_text}
+use Rattle.pp_language.specs.Answers.{store_text, no_text, usage_text, syntax_text, which_name, limit_text, length_text}
 use Rattle.pp_language.specs.Told.{summary_text, failed_summary_text}
 use Rattle.pp_propagation.specs.Stores.{goals_of}
 use Rattle.pp_propagation.specs.Histories.{unfinished_goals}
@@ -49,29 +47,11 @@ summary_by turns store stopped = summary_text turns store true
 abbrev pub summary_of : Run → Text
 summary_of r = summary_by (length r.history) r.store r.end
 
--- ===== what is built so far
+-- ===== the words that are served so far
 
-abbrev pub IsFactual : List (Predicate × Clause) → Type 0
-IsFactual [] = Unit {0}
-IsFactual (c ∷ cs) = (c.1.body ≡ []) × IsFactual cs
-
--- what is built so far: facts, and a query of one goal of a predicate with `most`
-pub record IsBuilt (w : Written) : Type 0 where
-  pub facts : IsFactual w.clauses
-  pub predicate : Predicate
-  pub arguments : Trees ℕ
-  pub query : w.query.items ≡ infers (record { shape = user predicate; arguments = arguments }) most ∷ []
-
--- the command `alone` without options
-abbrev pub plain : Command
-plain = record { kind = Alone; settings = settings_by []; trace = false }
-
--- the words are the one word `alone`
-abbrev pub AreWords : List Text → Type 0
-AreWords words = words ≡ codes "alone" ∷ []
-
+-- the words ask for `alone`, without `--trace`
 abbrev pub AreBuiltWords : List Text → Command → Type 0
-AreBuiltWords words command = AreWords words × (command ≡ plain)
+AreBuiltWords words command = AreWordsOfAlone words command × (command.trace ≡ false)
 
 -- ===== the reply
 
@@ -84,8 +64,7 @@ pub record RunsAs (settings : Settings) (text : Text) (w : Written) (r : Run) : 
 pub data IsReplyWithin (settings : Settings) (told text : Text) (s : Status) (b : Text) : Type 0 where
   faulty : (k : ℕ) → IsSyntaxFault text k → s ≡ Syntax → b ≡ syntax_text k → IsReplyWithin settings told text s b
   limited : (which : Which) → Passes text which → s ≡ Limit → b ≡ limit_text (which_name which) → IsReplyWithin settings told text s b
-  unbuilt : (w : Written) → Writes text w → (IsBuilt w → ⊥) → s ≡ Unbuilt → b ≡ unbuilt_text → IsReplyWithin settings told text s b
-  answered : (w : Written) (r : Run) → RunsAs settings text w r → IsBuilt w → s ≡ status_of r.end → b ≡ told ++ answer_of w r → IsReplyWithin settings told text s b
+  answered : (w : Written) (r : Run) → RunsAs settings text w r → s ≡ status_of r.end → b ≡ told ++ answer_of w r → IsReplyWithin settings told text s b
 
 -- the length is counted before anything is read
 pub data IsReplyToText (settings : Settings) (told text : Text) (s : Status) (b : Text) : Type 0 where

@@ -1,5 +1,5 @@
 -- The clause that a statement writes has as many distinct variables as its sentence.
-use Rattle.std.proofs.Common.{◌≡◌, ℕ, ◌+◌, Bool, true, false, ◌||◌, List, [], ◌∷◌, ◌++◌, length, map, get_or, Some, refl, ap, sym, ◌∙◌, arith}
+use Rattle.std.proofs.Common.{◌≡◌, ℕ, ◌+◌, Bool, true, false, ◌||◌, List, [], ◌∷◌, ◌++◌, length, map, get_or, refl, ap, sym, ◌∙◌, arith}
 use Rattle.std.specs.Prelude.{All, cond, not, filter, nat_eq}
 use Rattle.std.specs.List.{flat_map}
 use Rattle.std.proofs.Math.ListN.{length-map}
@@ -15,8 +15,8 @@ use Rattle.pp_row.proofs.Keys.{same_text-IsSame}
 use Rattle.pp_language.specs.Texts.{Text}
 use Rattle.pp_language.specs.Keys.{Key, named, unnamed, same_key, is_named, named_first, numbered}
 use Rattle.pp_language.specs.Phrases.{Phrase}
-use Rattle.pp_language.specs.Statements.{BodyItem}
-use Rattle.pp_language.specs.Meanings.{blanks_all, keyed_all, keyed_lists, keys_in, said_arguments, body_phrases, goals_by, clause_by}
+use Rattle.pp_language.specs.Statements.{Item}
+use Rattle.pp_language.specs.Meanings.{blanks_all, keyed_all, keyed_lists, keys_in, said_arguments, item_phrases, goals_by, clause_by}
 use Rattle.pp_language.specs.Limits.{variable_count}
 use Rattle.pp_read.specs.Sizes.{variables_of}
 use Rattle.pp_parse.proofs.KnownTexts.{is_in}
@@ -118,16 +118,16 @@ numbered_variables : (ks : List Key) (ts : Trees Key) → variables_all (numbere
 numbered_variables ks ts = variables_all-put_all (λ k. variable (place same_key ks k)) ts ∙ flat_map_single (place same_key ks) (variables_all ts)
 
 module _ (names : List Text) where
-  goals_variables : (ks : List Key) (n : ℕ) (is : List BodyItem) → flat_map (λ g. variables_all g.arguments) (goals_by names is (map (numbered ks) (keyed_lists names n (map body_phrases is)))) ≡ map (place same_key ks) (list_keys names n (map body_phrases is))
+  goals_variables : (ks : List Key) (n : ℕ) (is : List Item) → flat_map (λ g. variables_all g.arguments) (goals_by names is (map (numbered ks) (keyed_lists names n (map item_phrases is)))) ≡ map (place same_key ks) (list_keys names n (map item_phrases is))
   goals_variables ks n [] = refl
   goals_variables ks n (i ∷ is) =
-      let ts = keyed_all names n (body_phrases i) in
-      let m = n + blanks_all (body_phrases i) in
-      ap (λ vs. vs ++ flat_map (λ g. variables_all g.arguments) (goals_by names is (map (numbered ks) (keyed_lists names m (map body_phrases is))))) (numbered_variables ks ts)
+      let ts = keyed_all names n (item_phrases i) in
+      let m = n + blanks_all (item_phrases i) in
+      ap (λ vs. vs ++ flat_map (λ g. variables_all g.arguments) (goals_by names is (map (numbered ks) (keyed_lists names m (map item_phrases is))))) (numbered_variables ks ts)
       ∙ ap (λ vs. map (place same_key ks) (variables_all ts) ++ vs) (goals_variables ks m is)
-      ∙ sym (map-append (place same_key ks) (variables_all ts) (list_keys names m (map body_phrases is)))
+      ∙ sym (map-append (place same_key ks) (variables_all ts) (list_keys names m (map item_phrases is)))
 
-  counted_from : (head : Trees Key) (n : ℕ) (is : List BodyItem) (tss : List (Trees Key)) → tss ≡ keyed_lists names n (map body_phrases is)
+  counted_from : (head : Trees Key) (n : ℕ) (is : List Item) (tss : List (Trees Key)) → tss ≡ keyed_lists names n (map item_phrases is)
       → length (firsts nat_eq [] (variables_all (numbered (named_first (keys_in (head ∷ tss))) head) ++ flat_map (λ g. variables_all g.arguments) (goals_by names is (map (numbered (named_first (keys_in (head ∷ tss)))) tss)))) ≡ length (keys_in (head ∷ tss))
   counted_from head n is tss e =
       let all = variables_all head ++ flat_map variables_all tss in
@@ -139,11 +139,11 @@ module _ (names : List Text) where
       ∙ ap (λ vs. map (place same_key ks) (variables_all head) ++ vs) body ∙ sym (map-append (place same_key ks) (variables_all head) (flat_map variables_all tss)) in
       ap (λ vs. length (firsts nat_eq [] vs)) both ∙ places_counted same_key same_key-IsSame ks all (all_placed all)
 
-  pub variables_counted : (p : Phrase) (is : List BodyItem) → length (firsts nat_eq [] (variables_of (clause_by names p is).1)) ≡ variable_count (clause_lists p is)
+  pub variables_counted : (p : Phrase) (is : List Item) → length (firsts nat_eq [] (variables_of (clause_by names p is).1)) ≡ variable_count (clause_lists p is)
   variables_counted p is =
       let head = keyed_all names 0 (said_arguments p) in
       let b = blanks_all (said_arguments p) in
       let z : b ≡ 0 + b = omega arith in
-      counted_from head b is (keyed_lists names b (map body_phrases is)) refl
-      ∙ ap (λ n. length (keys_in (head ∷ keyed_lists names n (map body_phrases is)))) z
+      counted_from head b is (keyed_lists names b (map item_phrases is)) refl
+      ∙ ap (λ n. length (keys_in (head ∷ keyed_lists names n (map item_phrases is)))) z
       ∙ ap (λ ks. length (firsts same_key [] ks)) (lists_same names 0 (clause_lists p is))

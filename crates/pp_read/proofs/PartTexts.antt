@@ -11,9 +11,9 @@ use Rattle.pp_language.specs.Words.{Word, word, is_name_kind}
 use Rattle.pp_language.specs.Keys.{texts_of}
 use Rattle.pp_language.specs.Phrases.{Phrase, integer_phrase, variable_phrase, said, Phrases, no_phrases, phrase_and, is_phrase, Part, term_part, mark, mark_text, phrase_words, parts_words}
 use Rattle.pp_language.specs.PartsOf.{is_mark, are_parts}
-use Rattle.pp_language.specs.Statements.{Bounds, one_bound, two_bounds, SetPhrase, bare, bracketed, BodyItem, calls, equates, belongs, compares, QueryPhrase, asks_equal, asks_member, asks_infer, mode_text, bounds_parts, more_bounds_parts, set_parts, body_parts, query_parts, items_parts, is_body_item, is_query_phrase, is_comparison, is_saying}
-use Rattle.pp_language.specs.Meanings.{blanks, blanks_all, keyed, keyed_all, said_arguments, two_phrases, body_phrases, query_phrases}
-use Rattle.pp_language.specs.Limits.{is_too_wide, body_too_wide, query_too_wide}
+use Rattle.pp_language.specs.Statements.{Bounds, one_bound, two_bounds, SetPhrase, bare, bracketed, Item, calls, equates, belongs, compares, asks, mode_text, bounds_parts, more_bounds_parts, set_parts, item_parts, items_parts, is_item, is_comparison, is_callable}
+use Rattle.pp_language.specs.Meanings.{blanks, blanks_all, keyed, keyed_all, said_arguments, two_phrases, item_phrases}
+use Rattle.pp_language.specs.Limits.{is_too_wide, item_too_wide}
 use Rattle.pp_parse.specs.Words.{named_by, named_in, blanks_by, blanks_in}
 use Rattle.pp_read.proofs.Keys.{texts_of-append}
 use Rattle.pp_read.proofs.PhraseKeys.{name_named, named_in-append, blanks_in-append, phrase_texts, phrase_blanks}
@@ -103,7 +103,7 @@ or_none true = refl
 or_none false = refl
 
 module _ (names : List Text) where
-  pub said_texted : (p : Phrase) → is_saying p ≡ true → IsTexted names (term_part p ∷ []) (said_arguments p) (is_too_wide p)
+  pub said_texted : (p : Phrase) → is_callable p ≡ true → IsTexted names (term_part p ∷ []) (said_arguments p) (is_too_wide p)
   said_texted (integer_phrase bs) h = absurd (cc)
   said_texted (variable_phrase bs) h = absurd (cc)
   said_texted (said w us) h = record {
@@ -136,15 +136,7 @@ module _ (names : List Text) where
         width = ap (λ b. is_too_wide p || b) t.2 ∙ or_none (is_too_wide p);
       }
 
-  pub body_texted : (x : BodyItem) → is_body_item x ≡ true → IsTexted names (body_parts x) (body_phrases x) (body_too_wide x)
-  body_texted (calls p) h = said_texted p h
-  body_texted (equates p q) h = let i = and_parts (is_phrase p) (is_phrase q) h in two_texted p q Equals i.0 i.1
-  body_texted (belongs p s) h = member_texted p InDomain s h
-  body_texted (compares k p q) h =
-      let i = and_parts (is_comparison k && is_phrase p) (is_phrase q) h in
-      two_texted p q k (and_parts (is_comparison k) (is_phrase p) i.0).1 i.1
-
-  mode_texted : (p : Phrase) (w : Word) → is_name_kind w.kind ≡ true → is_saying p ≡ true → IsTexted names (term_part p ∷ mark Infers ∷ term_part (said w no_phrases) ∷ []) (said_arguments p) (is_too_wide p)
+  mode_texted : (p : Phrase) (w : Word) → is_name_kind w.kind ≡ true → is_callable p ≡ true → IsTexted names (term_part p ∷ mark Infers ∷ term_part (said w no_phrases) ∷ []) (said_arguments p) (is_too_wide p)
   mode_texted p w k h =
       let t = said_texted p h in
       record {
@@ -153,40 +145,44 @@ module _ (names : List Text) where
         width = t.width;
       }
 
-  pub query_texted : (x : QueryPhrase) → is_query_phrase x ≡ true → IsTexted names (query_parts x) (query_phrases x) (query_too_wide x)
-  query_texted (asks_equal p q) h = let i = and_parts (is_phrase p) (is_phrase q) h in two_texted p q Equals i.0 i.1
-  query_texted (asks_member p s) h = member_texted p InDomain s h
-  query_texted (asks_infer p m) h = mode_texted p (word Atom (mode_text m)) refl h
+  pub item_texted : (x : Item) → is_item x ≡ true → IsTexted names (item_parts x) (item_phrases x) (item_too_wide x)
+  item_texted (calls p) h = said_texted p h
+  item_texted (equates p q) h = let i = and_parts (is_phrase p) (is_phrase q) h in two_texted p q Equals i.0 i.1
+  item_texted (belongs p s) h = member_texted p InDomain s h
+  item_texted (compares k p q) h =
+      let i = and_parts (is_comparison k && is_phrase p) (is_phrase q) h in
+      two_texted p q k (and_parts (is_comparison k) (is_phrase p) i.0).1 i.1
+  item_texted (asks p m) h = mode_texted p (word Atom (mode_text m)) refl h
 
 -- ===== items one behind another
 
-module _ {I : Type 0} (names : List Text) (parts : I → List Part) (terms : I → Phrases) (ok : I → Bool) (wide : I → Bool) (one : (x : I) → ok x ≡ true → IsTexted names (parts x) (terms x) (wide x)) where
-  pub items_texts : (xs : List I) (n : ℕ) → list_all ok xs ≡ true → parts_texts (items_parts parts xs) ≡ texts_of (list_keys names n (map terms xs))
+module _ (names : List Text) where
+  pub items_texts : (xs : List Item) (n : ℕ) → list_all is_item xs ≡ true → parts_texts (items_parts xs) ≡ texts_of (list_keys names n (map item_phrases xs))
   items_texts [] n h = refl
   items_texts (x ∷ []) n h =
-      let t = one x (and_parts (ok x) true h).0 in
-      ap parts_texts (append-nil (parts x)) ∙ t.texts n ∙ ap texts_of (sym (append-nil (variables_all (keyed_all names n (terms x)))))
+      let t = item_texted names x (and_parts (is_item x) true h).0 in
+      ap parts_texts (append-nil (item_parts x)) ∙ t.texts n ∙ ap texts_of (sym (append-nil (variables_all (keyed_all names n (item_phrases x)))))
   items_texts (x ∷ y ∷ ys) n h =
-      let i = and_parts (ok x) (list_all ok (y ∷ ys)) h in
-      let t = one x i.0 in
-      let rest = list_keys names (n + blanks_all (terms x)) (map terms (y ∷ ys)) in
-      parts_texts-append (parts x) (mark Comma ∷ items_parts parts (y ∷ ys))
-      ∙ ap (λ ts. ts ++ parts_texts (items_parts parts (y ∷ ys))) (t.texts n)
-      ∙ ap (λ ts. texts_of (variables_all (keyed_all names n (terms x))) ++ ts) (items_texts (y ∷ ys) (n + blanks_all (terms x)) i.1)
-      ∙ sym (texts_of-append (variables_all (keyed_all names n (terms x))) rest)
+      let i = and_parts (is_item x) (list_all is_item (y ∷ ys)) h in
+      let t = item_texted names x i.0 in
+      let rest = list_keys names (n + blanks_all (item_phrases x)) (map item_phrases (y ∷ ys)) in
+      parts_texts-append (item_parts x) (mark Comma ∷ items_parts (y ∷ ys))
+      ∙ ap (λ ts. ts ++ parts_texts (items_parts (y ∷ ys))) (t.texts n)
+      ∙ ap (λ ts. texts_of (variables_all (keyed_all names n (item_phrases x))) ++ ts) (items_texts (y ∷ ys) (n + blanks_all (item_phrases x)) i.1)
+      ∙ sym (texts_of-append (variables_all (keyed_all names n (item_phrases x))) rest)
 
-  pub items_blanks : (xs : List I) → list_all ok xs ≡ true → parts_blanks (items_parts parts xs) ≡ list_blanks (map terms xs)
+  pub items_blanks : (xs : List Item) → list_all is_item xs ≡ true → parts_blanks (items_parts xs) ≡ list_blanks (map item_phrases xs)
   items_blanks [] h = refl
-  items_blanks (x ∷ []) h = omega (arith, (one x (and_parts (ok x) true h).0).blank, ap parts_blanks (append-nil (parts x)))
+  items_blanks (x ∷ []) h = omega (arith, (item_texted names x (and_parts (is_item x) true h).0).blank, ap parts_blanks (append-nil (item_parts x)))
   items_blanks (x ∷ y ∷ ys) h =
-      let i = and_parts (ok x) (list_all ok (y ∷ ys)) h in
-      omega (arith, (one x i.0).blank, parts_blanks-append (parts x) (mark Comma ∷ items_parts parts (y ∷ ys)), items_blanks (y ∷ ys) i.1)
+      let i = and_parts (is_item x) (list_all is_item (y ∷ ys)) h in
+      omega (arith, (item_texted names x i.0).blank, parts_blanks-append (item_parts x) (mark Comma ∷ items_parts (y ∷ ys)), items_blanks (y ∷ ys) i.1)
 
-  pub items_wide : (xs : List I) → list_all ok xs ≡ true → list_any part_wide (items_parts parts xs) ≡ list_any wide xs
+  pub items_wide : (xs : List Item) → list_all is_item xs ≡ true → list_any part_wide (items_parts xs) ≡ list_any item_too_wide xs
   items_wide [] h = refl
-  items_wide (x ∷ []) h = ap (list_any part_wide) (append-nil (parts x)) ∙ (one x (and_parts (ok x) true h).0).width ∙ sym (or_none (wide x))
+  items_wide (x ∷ []) h = ap (list_any part_wide) (append-nil (item_parts x)) ∙ (item_texted names x (and_parts (is_item x) true h).0).width ∙ sym (or_none (item_too_wide x))
   items_wide (x ∷ y ∷ ys) h =
-      let i = and_parts (ok x) (list_all ok (y ∷ ys)) h in
-      list_any-append part_wide (parts x) (mark Comma ∷ items_parts parts (y ∷ ys))
-      ∙ ap (λ b. b || list_any part_wide (items_parts parts (y ∷ ys))) (one x i.0).width
-      ∙ ap (λ b. wide x || b) (items_wide (y ∷ ys) i.1)
+      let i = and_parts (is_item x) (list_all is_item (y ∷ ys)) h in
+      list_any-append part_wide (item_parts x) (mark Comma ∷ items_parts (y ∷ ys))
+      ∙ ap (λ b. b || list_any part_wide (items_parts (y ∷ ys))) (item_texted names x i.0).width
+      ∙ ap (λ b. item_too_wide x || b) (items_wide (y ∷ ys) i.1)

@@ -1,12 +1,10 @@
 -- The terms of phrases: whether they are within the limits of a term, and which variables stand in them.
-use Rattle.std.proofs.Common.{◌≡◌, ℕ, pos, zero, suc, ◌+◌, ◌<◌, ◌≤◌, Bool, true, false, not, ◌||◌, cond, nat_eq, nat_le, List, [], ◌∷◌, ◌++◌, length, refl, ap, ◌∙◌, subst, arith, ⊎_elim}
-use Rattle.std.specs.Prelude.{codes, All, IsTrue, ◌-ℤ◌}
+use Rattle.std.proofs.Common.{◌≡◌, ℕ, zero, suc, ◌+◌, ◌<◌, ◌≤◌, Bool, true, false, not, ◌||◌, cond, nat_le, List, [], ◌∷◌, ◌++◌, length, refl, ap, ◌∙◌, subst, arith, ⊎_elim}
+use Rattle.std.specs.Prelude.{codes, All}
 use Rattle.std.specs.List.{list_any}
-use Rattle.std.proofs.lemmas.Bool.{and_parts, or_parts, leb-true}
-use Rattle.std.proofs.lemmas.Int.{ints}
+use Rattle.std.proofs.lemmas.Bool.{or_parts, leb-true}
 use Rattle.std.proofs.lemmas.List.Folds.{list_any-append}
-use Rattle.std.proofs.lemmas.List.Elements.{All-nil, All-cons, All-append, All-head, All-tail}
-use Rattle.pp_algebra.specs.Members.{IsInteger}
+use Rattle.std.proofs.lemmas.List.Elements.{All-nil, All-cons, All-append, All-head}
 use Rattle.pp_algebra.specs.Covers.{IsIn}
 use Rattle.pp_algebra.specs.Terms as terms
 use Rattle.pp_algebra.specs.Terms.{variables, variables_all}
@@ -17,8 +15,6 @@ use Rattle.pp_row.specs.declared.cell.Cell.{Cell}
 use Rattle.pp_row.specs.declared.cell.Cell.TheVariants.{Int, Var}
 use Rattle.pp_language.specs.Texts.{Text}
 use Rattle.pp_algebra.specs.Texts.{same_text}
-use Rattle.pp_language.specs.Kinds.{value_of, digits_of, is_number_text, is_integer_text, greatest_size, spells}
-use Rattle.pp_language.specs.Words.{Word}
 use Rattle.pp_language.specs.Phrases.{Phrase, integer_phrase, variable_phrase, said, Phrases, no_phrases, phrase_and, count, phrase_words, group_words, more_phrase_words}
 use Rattle.pp_language.specs.Meanings.{integer_of, blanks, blanks_all}
 use Rattle.pp_language.specs.Limits.{is_above, is_too_wide, are_too_wide}

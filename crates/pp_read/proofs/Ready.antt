@@ -4,14 +4,15 @@ use Rattle.std.specs.Prelude.{All, IsTrue, not, ◌≤◌, nat_le, count_by}
 use Rattle.std.specs.declared.vec.Vec.{Vec}
 use Rattle.std.specs.declared.alloc.Global.{Global}
 use Rattle.std.specs.List.{list_all, list_any}
-use Rattle.std.proofs.lemmas.Bool.{and_parts, leb-true}
+use Rattle.std.proofs.lemmas.Bool.{leb-true}
 use Rattle.pp_algebra.specs.Least.{arguments}
 use Rattle.pp_language.specs.declared.which.Which.{Which}
 use Rattle.pp_language.specs.declared.which.Which.TheVariants.{Clauses, Arity, Variables, Goals}
 use Rattle.pp_language.specs.Texts.{Text}
 use Rattle.pp_language.specs.Printing.{name_at}
 use Rattle.pp_language.specs.Phrases.{Phrase}
-use Rattle.pp_language.specs.Statements.{BodyItem, QueryPhrase, Statement, directive, clause, query, statement_parts, body_parts, query_parts, is_head, is_body_item, is_query_phrase, some_item, is_statement}
+use Rattle.pp_language.specs.Statements.{Item, Statement, directive, clause, query, statement_parts, is_head, is_item, is_body_item, is_query_item, is_statement}
+use Rattle.pp_language.proofs.OneItems.{clause_is, query_is}
 use Rattle.pp_language.specs.Limits.{is_above, when, passed}
 use Rattle.pp_term.specs.declared.clause.Clause as clauses
 use Rattle.pp_term.specs.declared.query.Query as queries
@@ -24,10 +25,10 @@ use Rattle.pp_parse.specs.declared.statement.Layout.{Layout}
 use Rattle.pp_parse.specs.declared.statement.Layout.TheVariants as layouts
 use Rattle.pp_read.specs.declared.sentence.Said.TheVariants.{Directive, Clause, Query, OverClause, OverQuery}
 use Rattle.pp_read.specs.Pieces.{tree_at, predicate_of_tree}
-use Rattle.pp_read.specs.Values.{goal_from, item_from, HasSayingAt, IsGoalEntry, IsItemEntry}
+use Rattle.pp_read.specs.Values.{goal_from, item_from, HasCallableAt, IsGoalEntry, IsItemEntry}
 use Rattle.pp_read.specs.Sizes.{is_annotated}
 use Rattle.pp_read.specs.Passed.{is_wide, is_infer, clause_passed, query_passed}
-use Rattle.pp_parse.specs.Layouts.{IsBodyEntry, IsQueryEntry, AreEntries, IsLayout}
+use Rattle.pp_parse.specs.Layouts.{AreEntries, IsLayout}
 use Rattle.pp_parse.specs.Parsed.{IsKnown, IsReady}
 use Rattle.pp_read.specs.Sentences.{IsMade}
 use Rattle.pp_read.proofs.MadeStatements.{clause_limit_is}
@@ -76,32 +77,33 @@ module _ (names named : List Text) (count : ℕ) (ps : List Part) where
 
   record ClauseReady (es : List Entry) (s : Statement) : Type 0 where
     head : Phrase
-    items : List BodyItem
+    items : List Item
     same : s ≡ clause head items
     is_headed : is_head head ≡ true
-    are_items : list_all is_body_item items ≡ true
+    are_items : list_all is_item items ≡ true
+    of_body : list_all is_body_item items ≡ true
     known : IsKnown names named count (statement_parts (clause head items)) ps
-    entries : AreEntries body_parts IsBodyEntry 2 items es
+    entries : AreEntries 2 items es
 
   clause_ready : (y : Layout) (l : Vec Entry Global) → y ≡ layouts.Clause l → (r : IsReady names named count ps y) → ClauseReady l.items r.statement
   clause_ready y l e r = go r.statement r.is_statement r.known (subst (IsLayout r.statement) e r.layout)
     where
       go : (s : Statement) → IsTrue (is_statement s) → IsKnown names named count (statement_parts s) ps → IsLayout s (layouts.Clause l) → ClauseReady l.items s
       go (directive w) h k e = absurd e
-      go (clause p is) h k e = let i = and_parts (is_head p) (list_all is_body_item is) h in record { head = p; items = is; same = refl; is_headed = i.0; are_items = i.1; known = k; entries = e }
+      go (clause p is) h k e = let i = clause_is p is h in record { head = p; items = is; same = refl; is_headed = i.0; are_items = i.1; of_body = i.2; known = k; entries = e }
       go (query is) h k e = absurd e
 
-  pub clause_fits : (y : Layout) (l : Vec Entry Global) (n : ℕ) → y ≡ layouts.Clause l → IsReady names named count ps y → None ≡ clause_passed n ps (length named + count) → HasSayingAt names ps 0 × All (IsGoalEntry names ps) l.items
+  pub clause_fits : (y : Layout) (l : Vec Entry Global) (n : ℕ) → y ≡ layouts.Clause l → IsReady names named count ps y → None ≡ clause_passed n ps (length named + count) → HasCallableAt names ps 0 × All (IsGoalEntry names ps) l.items
   clause_fits y l n z r h =
       let c = clause_ready y l z r in
-      let m = clause_parts names named count ps c.head c.items c.is_headed c.are_items c.known l.items (clause_narrow n ps (length named + count) (sym h)) c.entries in
+      let m = clause_parts names named count ps c.head c.items c.is_headed c.are_items c.known l.items c.of_body (clause_narrow n ps (length named + count) (sym h)) c.entries in
       (m.head, m.body)
 
   pub clause_is_made : (y : Layout) (l : Vec Entry Global) (n : ℕ) → y ≡ layouts.Clause l → (r : IsReady names named count ps y) (c : clauses.Clause) → None ≡ clause_passed n ps (length named + count)
       → predicate_of c.pred ≡ predicate_of_tree (tree_at ps 0) → trees_of c.head ≡ arguments (tree_at ps 0) → map goal_of c.body ≡ map (goal_from names ps) l.items → c.vars ≡ length named + count → IsMade names n r.statement (Clause c)
   clause_is_made y l n z r c h pred head body vars =
       let k = clause_ready y l z r in
-      let m = clause_parts names named count ps k.head k.items k.is_headed k.are_items k.known l.items (clause_narrow n ps (length named + count) (sym h)) k.entries in
+      let m = clause_parts names named count ps k.head k.items k.is_headed k.are_items k.known l.items k.of_body (clause_narrow n ps (length named + count) (sym h)) k.entries in
       let w = clause_written names named count ps k.head k.items k.is_headed k.are_items k.known l.items c m pred head body vars in
       let p : passed n (clause k.head k.items) ≡ None = sym (clause_limit_is names named count ps k.head k.items k.is_headed k.are_items k.known n) ∙ sym h in
       let few : c.vars ≤ 255 = subst (λ v. v ≤ 255) (sym vars) (clause_few n ps (length named + count) (sym h)) in
@@ -115,11 +117,12 @@ module _ (names named : List Text) (count : ℕ) (ps : List Part) where
   -- ===== queries
 
   record QueryReady (es : List Entry) (s : Statement) : Type 0 where
-    items : List QueryPhrase
+    items : List Item
     same : s ≡ query items
-    are_items : list_all is_query_phrase items ≡ true
+    are_items : list_all is_item items ≡ true
+    of_query : list_all is_query_item items ≡ true
     known : IsKnown names named count (statement_parts (query items)) ps
-    entries : AreEntries query_parts IsQueryEntry 1 items es
+    entries : AreEntries 1 items es
 
   query_ready : (y : Layout) (l : Vec Entry Global) → y ≡ layouts.Query l → (r : IsReady names named count ps y) → QueryReady l.items r.statement
   query_ready y l e r = go r.statement r.is_statement r.known (subst (IsLayout r.statement) e r.layout)
@@ -127,19 +130,19 @@ module _ (names named : List Text) (count : ℕ) (ps : List Part) where
       go : (s : Statement) → IsTrue (is_statement s) → IsKnown names named count (statement_parts s) ps → IsLayout s (layouts.Query l) → QueryReady l.items s
       go (directive w) h k e = absurd e
       go (clause p is) h k e = absurd e
-      go (query is) h k e = record { items = is; same = refl; are_items = (and_parts (some_item is) (list_all is_query_phrase is) h).1; known = k; entries = e }
+      go (query is) h k e = let i = query_is is h in record { items = is; same = refl; are_items = i.1; of_query = i.2; known = k; entries = e }
 
   pub query_fits : (y : Layout) (l : Vec Entry Global) → y ≡ layouts.Query l → IsReady names named count ps y → None ≡ query_passed ps (length named + count) l.items → All (IsItemEntry names ps) l.items
   query_fits y l z r h =
       let k = query_ready y l z r in
-      (query_parts_made names named count ps k.items k.are_items k.known l.items (query_narrow ps (length named + count) l.items (sym h)) k.entries).fits
+      (query_parts_made names named count ps k.items k.are_items k.known l.items k.of_query (query_narrow ps (length named + count) l.items (sym h)) k.entries).fits
 
   pub query_is_made : (y : Layout) (l : Vec Entry Global) (n : ℕ) → y ≡ layouts.Query l → (r : IsReady names named count ps y) (q : queries.Query) → None ≡ query_passed ps (length named + count) l.items
       → q.vars ≡ length named + count → map (name_at names) q.named ≡ named → map item_of q.items ≡ map (item_from names ps) l.items → IsMade names n r.statement (Query q)
   query_is_made y l n z r q h vars texts items =
       let k = query_ready y l z r in
-      let m = query_parts_made names named count ps k.items k.are_items k.known l.items (query_narrow ps (length named + count) l.items (sym h)) k.entries in
-      let w = query_written names named count ps k.items k.are_items k.known l.items q m vars texts items in
+      let m = query_parts_made names named count ps k.items k.are_items k.known l.items k.of_query (query_narrow ps (length named + count) l.items (sym h)) k.entries in
+      let w = query_written names named count ps k.items k.are_items k.known l.items q k.of_query m vars texts items in
       let p : passed n (query k.items) ≡ None = sym (query_limit_is names named count ps k.items k.are_items k.known n l.items k.entries) ∙ sym h in
       let f = query_few ps (length named + count) l.items (sym h) in
       let goals : count_by is_annotated q.items ≤ 1000 = subst (λ v. v ≤ 1000) (infers_counted 1 k.items l.items k.entries ∙ sym w.goals) f.goals in

@@ -16,14 +16,14 @@ use Rattle.pp_language.specs.Texts.{Text}
 use Rattle.pp_algebra.specs.Texts.{same_text}
 use Rattle.pp_language.specs.Words.{Word, atom_of}
 use Rattle.pp_language.specs.Keys.{texts_of}
-use Rattle.pp_language.specs.Phrases.{integer_phrase, variable_phrase, said, Phrases, are_phrases}
-use Rattle.pp_language.specs.Statements.{BodyItem, calls, equates, belongs, compares, QueryPhrase, asks_equal, asks_member, asks_infer}
-use Rattle.pp_language.specs.Meanings.{blanks, blanks_all, goals_by, items_by, said_arguments, keyed_all, shape_by, said_shape, relation_of, body_shape, body_phrases, item_by, query_phrases, predicate_by}
+use Rattle.pp_language.specs.Phrases.{Phrase, integer_phrase, variable_phrase, said, Phrases, are_phrases}
+use Rattle.pp_language.specs.Statements.{Item, calls, equates, belongs, compares, asks, is_query_item}
+use Rattle.pp_language.specs.Meanings.{blanks, blanks_all, goals_by, items_by, said_arguments, keyed_all, shape_by, said_shape, relation_of, item_shape, item_phrases, item_by, predicate_by, two_phrases}
 use Rattle.pp_term.specs.declared.pred.Shape.{Shape}
 use Rattle.pp_term.specs.declared.pred.Shape.TheVariants.{User, Plus, Times, Indomain}
 use Rattle.pp_term.specs.declared.clause.Goal.{Goal}
 use Rattle.pp_term.specs.declared.clause.Goal.TheVariants.{Call, Equate, Member, Compare}
-use Rattle.pp_term.specs.declared.query.Item.{Item}
+use Rattle.pp_term.specs.declared.query.Item as query
 use Rattle.pp_term.specs.declared.query.Item.TheVariants as items
 use Rattle.pp_row.specs.Columns.{trees_of}
 use Rattle.pp_term.specs.Meanings.{shape_of, goal_of}
@@ -87,13 +87,17 @@ relation_fits AtMost n = tt
 relation_fits Equal n = tt
 relation_fits _ n = tt
 
-pub body_fits : (names named : List Text) (n : ℕ) (x : BodyItem) → Fits (body_shape names x) (terms.count (terms_of names named n (body_phrases x)))
-body_fits names named n (calls (integer_phrase bs)) = tt
-body_fits names named n (calls (variable_phrase bs)) = tt
-body_fits names named n (calls (said w us)) = said_fits names named n w us
-body_fits names named n (equates p q) = tt
-body_fits names named n (belongs p s) = tt
-body_fits names named n (compares k p q) = relation_fits k (terms.count (terms_of names named n (body_phrases (compares k p q))))
+callable_fits : (names named : List Text) (n : ℕ) (p : Phrase) → Fits (said_shape names p) (terms.count (terms_of names named n (said_arguments p)))
+callable_fits names named n (integer_phrase bs) = tt
+callable_fits names named n (variable_phrase bs) = tt
+callable_fits names named n (said w us) = said_fits names named n w us
+
+item_fits : (names named : List Text) (n : ℕ) (x : Item) → Fits (item_shape names x) (terms.count (terms_of names named n (item_phrases x)))
+item_fits names named n (calls p) = callable_fits names named n p
+item_fits names named n (equates p q) = tt
+item_fits names named n (belongs p s) = tt
+item_fits names named n (compares k p q) = relation_fits k (terms.count (terms_of names named n (two_phrases p q)))
+item_fits names named n (asks p m) = callable_fits names named n p
 
 -- ===== goals
 
@@ -120,45 +124,48 @@ goal_made n (Member t d) shape us e f b = λ v i. b v (subst (λ x. IsIn v (vari
 goal_made n (Compare r t u) shape us e f b = λ v i. b v (subst (λ x. IsIn v (variables_all x)) (ap (λ x. x.arguments) e) i)
 
 module _ (names named : List Text) (n : ℕ) where
-  pub goals_made : (gs : List Goal) (is : List BodyItem) (m : ℕ) → map goal_of gs ≡ goals_by names is (list_terms names named m (map body_phrases is)) → All (Below n) (list_terms names named m (map body_phrases is)) → All (IsGoal n) gs
+  pub goals_made : (gs : List Goal) (is : List Item) (m : ℕ) → map goal_of gs ≡ goals_by names is (list_terms names named m (map item_phrases is)) → All (Below n) (list_terms names named m (map item_phrases is)) → All (IsGoal n) gs
   goals_made [] is m e b = All-nil (IsGoal n)
   goals_made (g ∷ gs) [] m e b = absurd (cc)
   goals_made (g ∷ gs) (i ∷ is) m e b =
-      let us = terms_of names named m (body_phrases i) in
-      let rest = list_terms names named (m + blanks_all (body_phrases i)) (map body_phrases is) in
-      let one : goal_of g ≡ make_goal (body_shape names i) us = cc in
+      let us = terms_of names named m (item_phrases i) in
+      let rest = list_terms names named (m + blanks_all (item_phrases i)) (map item_phrases is) in
+      let one : goal_of g ≡ make_goal (item_shape names i) us = cc in
       let more : map goal_of gs ≡ goals_by names is rest = cc in
       All-cons (IsGoal n) g gs
-      (goal_made n g (body_shape names i) us one (body_fits names named m i) (All-head (Below n) us rest b))
-      (goals_made gs is (m + blanks_all (body_phrases i)) more (All-tail (Below n) us rest b))
+      (goal_made n g (item_shape names i) us one (item_fits names named m i) (All-head (Below n) us rest b))
+      (goals_made gs is (m + blanks_all (item_phrases i)) more (All-tail (Below n) us rest b))
 
-  item_made : (g : Item) (x : QueryPhrase) (m : ℕ) → item_of g ≡ item_by names x (terms_of names named m (query_phrases x)) → Below n (terms_of names named m (query_phrases x)) → IsItem n g
-  item_made (items.Equate a b) (asks_equal p q) m e h =
+  item_made : (g : query.Item) (x : Item) (m : ℕ) → is_query_item x ≡ true → item_of g ≡ item_by names x (terms_of names named m (item_phrases x)) → Below n (terms_of names named m (item_phrases x)) → IsItem n g
+  item_made g (calls p) m k e h = absurd (cc (k))
+  item_made g (compares l p q) m k e h = absurd (cc (k))
+  item_made (items.Equate a b) (equates p q) m k e h =
       let f : a ≡ term_of names named m p = cc in
       let g : b ≡ term_of names named (m + blanks p) q = cc in
       λ v i. h v (subst (λ x. IsIn v (variables_all (more x (more (term_of names named (m + blanks p) q) none)))) f (subst (λ x. IsIn v (variables_all (more a (more x none)))) g i))
-  item_made (items.Equate a b) (asks_member p s) m e h = absurd (cc)
-  item_made (items.Equate a b) (asks_infer p o) m e h = absurd (cc)
-  item_made (items.Member t d) (asks_equal p q) m e h = absurd (cc)
-  item_made (items.Member t d) (asks_member p s) m e h =
+  item_made (items.Equate a b) (belongs p s) m k e h = absurd (cc)
+  item_made (items.Equate a b) (asks p o) m k e h = absurd (cc)
+  item_made (items.Member t d) (equates p q) m k e h = absurd (cc)
+  item_made (items.Member t d) (belongs p s) m k e h =
       let f : t ≡ term_of names named m p = cc in
       λ v i. h v (subst (λ x. IsIn v (variables_all (more x none))) f i)
-  item_made (items.Member t d) (asks_infer p o) m e h = absurd (cc)
-  item_made (items.Infer s ts o) (asks_equal p q) m e h = absurd (cc)
-  item_made (items.Infer s ts o) (asks_member p d) m e h = absurd (cc)
-  item_made (items.Infer s ts o) (asks_infer p k) m e h =
+  item_made (items.Member t d) (asks p o) m k e h = absurd (cc)
+  item_made (items.Infer s ts o) (equates p q) m k e h = absurd (cc)
+  item_made (items.Infer s ts o) (belongs p d) m k e h = absurd (cc)
+  item_made (items.Infer s ts o) (asks p l) m k e h =
       let us = terms_of names named m (said_arguments p) in
       let f : make_goal (shape_of s) (trees_of ts) ≡ make_goal (said_shape names p) us = cc in
-      call_made n s ts (said_shape names p) us (ap (λ x. x.shape) f) (ap (λ x. x.arguments) f) (body_fits names named m (calls p)) h
+      call_made n s ts (said_shape names p) us (ap (λ x. x.shape) f) (ap (λ x. x.arguments) f) (callable_fits names named m p) h
 
-  pub items_made : (gs : List Item) (is : List QueryPhrase) (m : ℕ) → map item_of gs ≡ items_by names is (list_terms names named m (map query_phrases is)) → All (Below n) (list_terms names named m (map query_phrases is)) → All (IsItem n) gs
-  items_made [] is m e b = All-nil (IsItem n)
-  items_made (g ∷ gs) [] m e b = absurd (cc)
-  items_made (g ∷ gs) (i ∷ is) m e b =
-      let us = terms_of names named m (query_phrases i) in
-      let rest = list_terms names named (m + blanks_all (query_phrases i)) (map query_phrases is) in
+  pub items_made : (gs : List query.Item) (is : List Item) (m : ℕ) → list_all is_query_item is ≡ true → map item_of gs ≡ items_by names is (list_terms names named m (map item_phrases is)) → All (Below n) (list_terms names named m (map item_phrases is)) → All (IsItem n) gs
+  items_made [] is m k e b = All-nil (IsItem n)
+  items_made (g ∷ gs) [] m k e b = absurd (cc)
+  items_made (g ∷ gs) (i ∷ is) m k e b =
+      let kinds = and_parts (is_query_item i) (list_all is_query_item is) k in
+      let us = terms_of names named m (item_phrases i) in
+      let rest = list_terms names named (m + blanks_all (item_phrases i)) (map item_phrases is) in
       let one : item_of g ≡ item_by names i us = cc in
       let more : map item_of gs ≡ items_by names is rest = cc in
       All-cons (IsItem n) g gs
-      (item_made g i m one (All-head (Below n) us rest b))
-      (items_made gs is (m + blanks_all (query_phrases i)) more (All-tail (Below n) us rest b))
+      (item_made g i m kinds.0 one (All-head (Below n) us rest b))
+      (items_made gs is (m + blanks_all (item_phrases i)) kinds.1 more (All-tail (Below n) us rest b))

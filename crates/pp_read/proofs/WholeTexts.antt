@@ -17,10 +17,10 @@ use Rattle.pp_language.specs.Sentences.{Ending, clean, FallInto, AreSentences}
 use Rattle.pp_language.specs.Programs.{Query as Asked, Written}
 use Rattle.pp_language.specs.declared.which.Which.TheVariants.{Clauses, Arity, Variables}
 use Rattle.pp_language.specs.Phrases.{Phrase}
-use Rattle.pp_language.specs.Statements.{BodyItem, Statement, directive, clause, query, statement_words, is_query}
+use Rattle.pp_language.specs.Statements.{Item, Statement, directive, clause, query, statement_words, is_query}
 use Rattle.pp_language.specs.Faults.{AllSay, IsInGrammar, sentence_words}
-use Rattle.pp_language.specs.Meanings.{said_arguments, body_phrases, texts_by, text_names, clauses_by, query_by, asked_by}
-use Rattle.pp_language.specs.Limits.{Writes, Passes, is_above, is_too_wide, body_too_wide, variable_count, when, passed, or_later, first_passed}
+use Rattle.pp_language.specs.Meanings.{said_arguments, item_phrases, texts_by, text_names, clauses_by, query_by, asked_by}
+use Rattle.pp_language.specs.Limits.{Writes, Passes, is_above, is_too_wide, item_too_wide, variable_count, when, passed, or_later, first_passed}
 use Rattle.pp_term.specs.Meanings.{clause_of}
 use Rattle.pp_read.specs.Meanings.{query_of}
 use Rattle.pp_term.specs.declared.query.Query.{Query}
@@ -117,8 +117,8 @@ make xs cs q = record { names = xs; clauses = cs; query = q }
 
 -- ===== the number of clauses
 
-within_clauses : (n : ℕ) (p : Phrase) (is : List BodyItem) (later : Option Which) → or_later (passed n (clause p is)) later ≡ None → suc n ≤ 65535
-within_clauses n p is later h = go (nat_le (suc n) 65535) (is_too_wide p || list_any body_too_wide is) (is_above 255 (variable_count (said_arguments p ∷ map body_phrases is))) h (leb-true (suc n) 65535)
+within_clauses : (n : ℕ) (p : Phrase) (is : List Item) (later : Option Which) → or_later (passed n (clause p is)) later ≡ None → suc n ≤ 65535
+within_clauses n p is later h = go (nat_le (suc n) 65535) (is_too_wide p || list_any item_too_wide is) (is_above 255 (variable_count (said_arguments p ∷ map item_phrases is))) h (leb-true (suc n) 65535)
   where
     go : (a b c : Bool) → or_later (when (not a) Clauses (when b Arity (when c Variables None))) later ≡ None → (a ≡ true → suc n ≤ 65535) → suc n ≤ 65535
     go true b c e f = f refl

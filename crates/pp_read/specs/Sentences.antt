@@ -1,25 +1,14 @@
 -- What the reader knows of a sentence, and what it makes of it.
-use Rattle.std.specs.Prelude.{◌≡◌, ℕ, IsTrue, All, List, [], length, Some, None}
-use Rattle.pp_algebra.specs.Canon.{has, firsts}
+use Rattle.std.specs.Prelude.{◌≡◌, ℕ, List, Some, None}
 use Rattle.pp_language.specs.Texts.{Text}
-use Rattle.pp_algebra.specs.Texts.{same_text}
-use Rattle.pp_language.specs.Kinds.{spells}
 use Rattle.pp_language.specs.Words.{Word}
-use Rattle.pp_language.specs.Phrases as phrases
-use Rattle.pp_language.specs.Phrases.{parts_words}
-use Rattle.pp_language.specs.PartsOf.{are_parts}
-use Rattle.pp_language.specs.Statements.{Statement, directive, clause, query, statement_parts, is_statement, Says}
+use Rattle.pp_language.specs.Statements.{Statement, directive, clause, query, Says}
 use Rattle.pp_language.specs.Meanings.{clause_by, query_by}
 use Rattle.pp_language.specs.Limits.{passed}
 use Rattle.pp_term.specs.Meanings.{clause_of}
 use Rattle.pp_read.specs.Meanings.{query_of}
-use Rattle.pp_parse.specs.declared.parts.Part.{Part}
-use Rattle.pp_parse.specs.declared.statement.Layout.{Layout}
 use Rattle.pp_read.specs.declared.sentence.Said.{Said}
 use Rattle.pp_read.specs.declared.sentence.Said.TheVariants.{Directive, Clause, Query, OverClause, OverQuery}
-use Rattle.pp_parse.specs.Words.{texts_in, named_in, blanks_in}
-use Rattle.pp_parse.specs.Parts.{AreParts}
-use Rattle.pp_parse.specs.Layouts.{IsLayout}
 use Rattle.pp_read.specs.Sizes.{IsReadClause, IsReadQuery}
 
 -- what a statement writes, with n clauses before it, or the first limit that it passes

@@ -44,13 +44,13 @@ item_from names ps (Infer a m) = infers (goal_of_tree names (tree_at ps a)) (mod
 -- ===== where this can be made
 
 -- an atom of these names stands there, with or without arguments
-pub record HasSayingAt (names : List Text) (ps : List Part) (i : ℕ) : Type 0 where
+pub record HasCallableAt (names : List Text) (ps : List Part) (i : ℕ) : Type 0 where
   pub term : HasTermAt ps i
   pub atom : IsAtom (tree_at ps i)
   pub name : (predicate_of_tree (tree_at ps i)).name < length names
 
 abbrev pub IsGoalEntry : List Text → List Part → Entry → Type 0
-IsGoalEntry names ps (Call a) = HasSayingAt names ps a
+IsGoalEntry names ps (Call a) = HasCallableAt names ps a
 IsGoalEntry names ps (Equate a b) = HasTermAt ps a × HasTermAt ps b
 IsGoalEntry names ps (Member a d) = HasTermAt ps a
 IsGoalEntry names ps (Compare r a b) = HasTermAt ps a × HasTermAt ps b
@@ -61,4 +61,4 @@ IsItemEntry names ps (Call a) = ⊥
 IsItemEntry names ps (Equate a b) = HasTermAt ps a × HasTermAt ps b
 IsItemEntry names ps (Member a d) = HasTermAt ps a
 IsItemEntry names ps (Compare r a b) = ⊥
-IsItemEntry names ps (Infer a m) = HasSayingAt names ps a
+IsItemEntry names ps (Infer a m) = HasCallableAt names ps a

@@ -8,10 +8,10 @@ ghost use Rattle.pp_row.specs.Columns.{trees_of};
 ghost use Rattle.pp_term.specs.Meanings.{predicate_of, goal_of};
 ghost use Rattle.pp_read.specs.Meanings.{item_of};
 ghost use Rattle.pp_read.specs.Pieces.{tree_at, predicate_of_tree};
-ghost use Rattle.pp_read.specs.Values.{goal_from, item_from, HasSayingAt, IsGoalEntry, IsItemEntry};
+ghost use Rattle.pp_read.specs.Values.{goal_from, item_from, HasCallableAt, IsGoalEntry, IsItemEntry};
 
 use crate::goals::{goals, items};
-use crate::terms::saying_at;
+use crate::terms::callable_at;
 use pp_parse::{Entry, Part, Variables};
 use pp_term::{Clause, Names, Numbers, Query};
 use std::alloc::{AllocError, Global};
@@ -24,14 +24,14 @@ pub(crate) fn clause(
     entries: Vec<Entry>,
     vars: u32,
 ) -> Result<Clause, AllocError>
-    requires head { HasSayingAt names.now parts.now 0 }
+    requires head { HasCallableAt names.now parts.now 0 }
     requires body { All (IsGoalEntry names.now parts.now) entries.items }
     ensures pred { IfOk result (λ c. predicate_of c.pred ≡ predicate_of_tree (tree_at parts.now 0)) }
     ensures head { IfOk result (λ c. trees_of c.head ≡ arguments (tree_at parts.now 0)) }
     ensures body { IfOk result (λ c. map goal_of c.body ≡ map (goal_from names.now parts.now) entries.items) }
     ensures vars { IfOk result (λ c. c.vars ≡ vars) }
 {
-    let (pred, head) = saying_at(alloc, parts, 0)?;
+    let (pred, head) = callable_at(alloc, parts, 0)?;
     let body = goals(alloc, names, parts, entries)?;
     Ok(Clause {
         pred,

@@ -2,9 +2,9 @@
 ghost use Rattle.std.specs.Prelude.{◌≡◌, ◌<◌, All, IfOk, map, length};
 ghost use Rattle.pp_term.specs.Meanings.{predicate_of, shape_of, goal_of};
 ghost use Rattle.pp_read.specs.Meanings.{item_of};
-ghost use Rattle.pp_read.specs.Values.{shape_by, goal_from, item_from, HasSayingAt, IsGoalEntry, IsItemEntry};
+ghost use Rattle.pp_read.specs.Values.{shape_by, goal_from, item_from, HasCallableAt, IsGoalEntry, IsItemEntry};
 
-use crate::terms::{saying_at, term_at};
+use crate::terms::{callable_at, term_at};
 use pp_parse::{Entry, Part};
 use pp_term::{Goal, Goals, Item, Items, Names, Pred, Shape};
 use std::alloc::{AllocError, Global};
@@ -30,7 +30,7 @@ fn goal(alloc: Global, names: &Names, parts: &[Part], entry: Entry) -> Result<Go
 {
     match entry {
         Entry::Call(at) => {
-            let (pred, terms) = saying_at(alloc, parts, at)?;
+            let (pred, terms) = callable_at(alloc, parts, at)?;
             Ok(Goal::Call(shape(names, pred), terms))
         }
         Entry::Equate(left, right) => {
@@ -53,7 +53,7 @@ fn item(alloc: Global, names: &Names, parts: &[Part], entry: Entry) -> Result<It
 {
     match entry {
         Entry::Infer(at, mode) => {
-            let (pred, terms) = saying_at(alloc, parts, at)?;
+            let (pred, terms) = callable_at(alloc, parts, at)?;
             Ok(Item::Infer(shape(names, pred), terms, mode))
         }
         Entry::Equate(left, right) => {

@@ -60,7 +60,7 @@ fn predicate(cells: &[Cell]) -> Pred
 }
 
 /// The atom with its arguments at a place.
-pub(crate) fn saying_at(
+pub(crate) fn callable_at(
     alloc: Global,
     parts: &[Part],
     at: usize,

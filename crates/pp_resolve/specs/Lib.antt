@@ -1,3 +1,10 @@
-pub mod Facts
-pub mod Matching
-pub mod Unifying
+pub mod Standing
+pub mod Links
+pub mod Frames
+pub mod Shown
+pub mod Acts
+pub mod Engines
+pub mod Starting
+pub mod Events
+pub mod Machines
+pub mod Selected

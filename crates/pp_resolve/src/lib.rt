@@ -1,8 +1,14 @@
-//! The answers of one goal over facts, and what they have in common.
+//! A machine that walks the search tree of a goal.
 #![tactic(auto)]
 
-mod answers;
-mod least;
+mod choose;
+mod engine;
+mod history;
+mod machine;
+mod place;
+mod root;
+mod select;
+mod start;
+mod step;
 
-pub use answers::first_answers;
-pub use least::first_least;
+pub use machine::Machine;

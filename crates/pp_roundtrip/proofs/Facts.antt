@@ -1,6 +1,6 @@
 -- A printed atom with a point behind it is read as a fact.
 use Rattle.std.proofs.Common.{◌≡◌, ℕ, suc, ◌+◌, ◌^◌, ◌<◌, true, false, List, [], ◌∷◌, ◌++◌, map, length, refl, ap, sym, ◌∙◌, subst, inl, inr, arith, append_assoc, append-nil, length-append}
-use Rattle.std.specs.Prelude.{codes}
+use Rattle.std.specs.Prelude.{codes, ◌&&◌}
 use Rattle.std.proofs.lemmas.Bool.{and_from, and_parts, not_from_false}
 use Rattle.pp_algebra.specs.Terms.{Tree, int, node, variable, Trees, none, more, count, variables, variables_all}
 use Rattle.pp_algebra.specs.Rows.{IsNumbered}
@@ -151,7 +151,7 @@ module _ (names : List Text) (f m : ℕ) (ts : Trees ℕ) (known : AreNames name
   says : Says (map (word_of text) (tokens_from 0 said_words)) (clause (phrase_of names t) [])
   says = record {
     words = words_are ∙ sym (append-nil said_words);
-    is_statement = and_from (is_head (phrase_of names t)) true head_is refl;
+    is_statement = and_from (is_head (phrase_of names t) && true) true (and_from (is_head (phrase_of names t)) true head_is refl) refl;
   }
 
   name_is : place same_text names (atom_of (atom_word (name_at names f)).kind (atom_word (name_at names f)).text) ≡ f

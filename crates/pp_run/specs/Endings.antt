@@ -3,7 +3,7 @@ use Rattle.std.specs.Prelude.{◌≡◌, ◌≢◌, ◌⊎◌, ◌++◌, Option}
 use Rattle.pp_language.specs.declared.command.CommandKind.{CommandKind}
 use Rattle.pp_language.specs.declared.command.CommandKind.TheVariants.{Make}
 use Rattle.pp_language.specs.declared.status.Status.{Status}
-use Rattle.pp_language.specs.declared.status.Status.TheVariants.{Yes, No, Usage, Syntax, Stopped, Limit, ReadFault, WriteFault, Memory, Unbuilt}
+use Rattle.pp_language.specs.declared.status.Status.TheVariants.{Yes, No, Usage, Syntax, Stopped, Limit, ReadFault, WriteFault, Memory}
 use Rattle.pp_language.specs.Texts.{Text}
 use Rattle.pp_io.specs.Ends.{Took}
 
@@ -19,7 +19,6 @@ Replied reply before after Usage = (b : Text) × reply Usage b × Took before af
 Replied reply before after Syntax = (b : Text) × reply Syntax b × Took before after b
 Replied reply before after Stopped = (b : Text) × reply Stopped b × Took before after b
 Replied reply before after Limit = (b : Text) × reply Limit b × Took before after b
-Replied reply before after Unbuilt = (b : Text) × reply Unbuilt b × Took before after b
 
 -- a run was made, or the text was refused for what it is
 abbrev pub HasReadText : Status → Type 0
@@ -28,7 +27,6 @@ HasReadText No = Unit {0}
 HasReadText Stopped = Unit {0}
 HasReadText Syntax = Unit {0}
 HasReadText Limit = Unit {0}
-HasReadText Unbuilt = Unit {0}
 HasReadText Usage = ⊥
 HasReadText ReadFault = ⊥
 HasReadText WriteFault = ⊥
@@ -46,7 +44,7 @@ Wrote s b before after result =
 
 -- the endings of a call whose words aren't valid
 abbrev pub IsWordsEnd : Status → Type 0
-IsWordsEnd s = (s ≡ Usage) ⊎ (s ≡ WriteFault)
+IsWordsEnd s = (s ≡ Usage) ⊎ ((s ≡ WriteFault) ⊎ (s ≡ Memory))
 
 -- the endings before the first write
 abbrev pub TookNothing : Status → Type 0

@@ -2,12 +2,9 @@
 #![tactic(auto)]
 
 mod answer;
-mod built;
 mod command;
 mod lines;
 mod reply;
-mod run;
-mod store;
 mod words;
 
 pub use command::alone;

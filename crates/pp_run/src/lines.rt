@@ -12,9 +12,6 @@ pub(crate) const USAGE: &[u8] = b"usage: propia run | alone | make N\n";
 /// The line of a text of more bytes than are read.
 pub(crate) const TOO_LONG: &[u8] = b"limit: text\n";
 
-/// The line of a text that is of no form that is built.
-pub(crate) const UNBUILT: &[u8] = b"not built yet\n";
-
 /// The line of a run that failed.
 pub(crate) const NO: &[u8] = b"no\n";
 

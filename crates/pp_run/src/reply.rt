@@ -2,18 +2,18 @@
 ghost use Rattle.std.specs.Prelude.{◌≡◌, ℕ, ◌≤◌, All, length, IfOk, []};
 ghost use Rattle.pp_language.specs.Texts.{Text};
 ghost use Rattle.pp_language.specs.Limits.{Writes};
-ghost use Rattle.pp_language.specs.Answers.{unbuilt_text};
-ghost use Rattle.pp_propagation.specs.Replies.{plain, IsReplyWithin, IsReplyToText};
+ghost use Rattle.pp_propagation.specs.Replies.{IsReplyWithin, IsReplyToText};
 ghost use Rattle.pp_term.specs.WellFormed.{IsClause, IsQuery};
 ghost use Rattle.pp_read.specs.Programs.{written_of};
 ghost use Rattle.pp_run.specs.Endings.{IsOrdinary};
 
-use crate::answer::answer;
-use crate::built::{are_facts, only_goal};
-use crate::lines::{UNBUILT, limit_line, syntax_line};
-use crate::run::run;
-use pp_language::{DEFAULT_TURNS, Status, TEXT_LIMIT};
-use pp_read::{Program, ReadFault, read};
+use crate::answer::{answer, no};
+use crate::lines::{limit_line, syntax_line};
+use pp_clause::Clauses;
+use pp_fix::fix_alone;
+use pp_language::{Settings, Status, TEXT_LIMIT};
+use pp_read::{ClauseList, Program, ReadFault, read};
+use pp_store::Store;
 use std::alloc::{AllocError, Global};
 
 /// A status and the bytes that go with it.
@@ -23,42 +23,54 @@ pub(crate) struct Reply {
     pub bytes: Vec<u8>,
 }
 
-/// The reply to a program that is not built yet.
-fn unbuilt(alloc: Global) -> Result<Reply, AllocError>
-    ensures { IfOk result (λ r. (r.status ≡ Status.Unbuilt) × (r.bytes.items ≡ unbuilt_text)) }
+/// The table of these clauses.
+fn table_of(alloc: Global, clauses: ClauseList) -> Result<Clauses, AllocError>
+    requires { All IsClause clauses }
+    ensures { IfOk result (λ table. table ≡ clauses) }
 {
-    Ok(Reply {
-        status: Status::Unbuilt,
-        bytes: Vec::from_slice(alloc, UNBUILT)?,
-    })
+    let mut table = Clauses::new(alloc);
+    for clause in clauses.into_vec() {
+        table.add(clause)?;
+    }
+    Ok(table)
 }
 
 /// The reply to any text that writes this program.
-fn reply_of(alloc: Global, program: &Program) -> Result<Reply, AllocError>
-    requires clauses { All IsClause program.now.clauses }
-    requires query { IsQuery program.now.query }
-    ensures { IfOk result (λ r. (text : Text) → Writes text (written_of program.now) → IsReplyWithin plain.settings [] text r.status r.bytes.items) }
+fn reply_of(alloc: Global, settings: Settings, program: Program) -> Result<Reply, AllocError>
+    requires clauses { All IsClause program.clauses }
+    requires query { IsQuery program.query }
+    ensures { IfOk result (λ r. (text : Text) → Writes text (written_of program) →
+        IsReplyWithin settings [] text r.status r.bytes.items) }
 {
-    let query = &program.query;
-    let clauses = program.clauses.as_slice();
-    let Some((pred, arguments)) = only_goal(query.items.as_slice()) else {
-        return unbuilt(alloc);
+    let Program {
+        names,
+        clauses,
+        query,
+    } = program;
+    let table = table_of(alloc, clauses)?;
+    let mut store = match Store::begin(alloc, &query)? {
+        None => return no(alloc),
+        Some(store) => store,
     };
-    if !are_facts(clauses) {
-        return unbuilt(alloc);
-    }
-    let outcome = run(alloc, clauses, pred, arguments, query.vars, DEFAULT_TURNS)?;
-    answer(alloc, &program.names, query, &outcome)
+    let fixed = fix_alone(
+        alloc,
+        &table,
+        &query,
+        &mut store,
+        settings.depth,
+        settings.turns,
+    )?;
+    answer(alloc, &names, &query, store.row(), &fixed)
 }
 
 /// The reply to a text.
-pub(crate) fn reply_to(alloc: Global, text: &[u8]) -> Result<Reply, AllocError>
+pub(crate) fn reply_to(alloc: Global, settings: Settings, text: &[u8]) -> Result<Reply, AllocError>
     requires { length text.now ≤ TEXT_LIMIT }
-    ensures reply { IfOk result (λ r. IsReplyToText plain.settings [] text.now r.status r.bytes.items) }
+    ensures reply { IfOk result (λ r. IsReplyToText settings [] text.now r.status r.bytes.items) }
     ensures ordinary { IfOk result (λ r. IsOrdinary r.status) }
 {
     match read(alloc, text) {
-        Ok(program) => reply_of(alloc, &program),
+        Ok(program) => reply_of(alloc, settings, program),
         Err(ReadFault::Syntax(sentence)) => Ok(Reply {
             status: Status::Syntax,
             bytes: syntax_line(alloc, sentence)?,

@@ -1,4 +1,4 @@
-//! Tests of bindings and of the answers of a goal, by their public calls.
+//! Tests of bindings by their public calls.
 #![tactic(auto)]
 
 #[cfg(test)]

@@ -1,5 +1,5 @@
 //! What no contract says: that a call with ample memory answers, and what becomes of some values.
-mod answers;
 mod bindings;
 mod samples;
 mod solving;
+mod spans;

@@ -29,7 +29,7 @@ fn is_there(cell: Cell, first: u32, count: usize) -> bool
     }
 }
 
-fn all_there(cells: &[Cell], first: u32, count: usize) -> bool
+pub fn all_there(cells: &[Cell], first: u32, count: usize) -> bool
     ensures { IsTrue result ↔ All (IsThere first count) cells.now }
 {
     cells.iter().all(|cell| is_there(*cell, first, count))

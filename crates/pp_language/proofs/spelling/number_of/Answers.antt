@@ -1,5 +1,4 @@
-use Rattle.std.proofs.Common.{sym, arith, ◌+◌}
-use Rattle.pp_language.specs.Kinds.{value_of, greatest_size}
+use Rattle.std.proofs.Common.{arith, ◌+◌}
 use Rattle.pp_language.proofs.Digits.{value_of-take_more, value_of-take-le}
 use Rattle.pp_language.proofs.spelling.number_of.Goals as goal
 

@@ -1,6 +1,6 @@
 use Rattle.std.proofs.Common.{◌<◌, length, drop, sym, ap, ◌∙◌, rules}
 use Rattle.pp_language.specs.Words.{Word}
-use Rattle.pp_parse.specs.Items.{plain_text}
+use Rattle.pp_language.specs.Fronts.{plain_text}
 use Rattle.pp_parse.proofs.Begun.{term_token, atom_alone, no_atom}
 use Rattle.pp_parse.proofs.items.atom_at.Goals as goal
 

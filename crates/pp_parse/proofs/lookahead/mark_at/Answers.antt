@@ -1,5 +1,5 @@
 use Rattle.std.proofs.Common.{drop, sym, ap}
-use Rattle.pp_parse.specs.Fronts.{mark_in}
+use Rattle.pp_language.specs.Fronts.{mark_in}
 use Rattle.pp_parse.proofs.Seen.{past_end, front_at, mark_of_mark, mark_of_term}
 use Rattle.pp_parse.proofs.lookahead.mark_at.Goals as goal
 

@@ -1,5 +1,5 @@
 use Rattle.std.proofs.Common.{drop, ap, ◌∙◌, Some}
-use Rattle.pp_parse.specs.Fronts.{has_term}
+use Rattle.pp_language.specs.Fronts.{has_term}
 use Rattle.pp_parse.proofs.Seen.{past_end, front_at, got_some, term_of_mark, term_of_term}
 use Rattle.pp_parse.proofs.lookahead.term_at.Goals as goal
 

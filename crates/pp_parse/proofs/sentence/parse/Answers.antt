@@ -1,6 +1,5 @@
-use Rattle.std.proofs.Common.{◌^◌, sym, subst}
+use Rattle.std.proofs.Common.{◌^◌}
 use Rattle.pp_parse.specs.Words.{words_of}
-use Rattle.pp_parse.specs.Parts.{AreRead}
 use Rattle.pp_parse.proofs.SentenceReady.{ready, no_statement, found_none, found_some, variables_known, variables_small}
 use Rattle.pp_parse.proofs.sentence.parse.Goals as goal
 

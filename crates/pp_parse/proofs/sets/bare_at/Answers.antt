@@ -1,6 +1,6 @@
 use Rattle.std.proofs.Common.{drop, ap, ◌∙◌}
 use Rattle.pp_language.specs.Statements.{bare}
-use Rattle.pp_parse.specs.Fronts.{front_as}
+use Rattle.pp_language.specs.Fronts.{front_as}
 use Rattle.pp_parse.proofs.Fronts.{bare_front}
 use Rattle.pp_parse.proofs.Ranges.{bounds_members}
 use Rattle.pp_parse.proofs.sets.bare_at.Goals as goal

@@ -1,7 +1,7 @@
 use Rattle.std.proofs.Common.{drop, sym, ap, ◌∙◌}
 use Rattle.std.specs.Prelude.{option_map}
 use Rattle.pp_language.specs.Meanings.{integer_of}
-use Rattle.pp_parse.specs.Fronts.{integer_in}
+use Rattle.pp_language.specs.Fronts.{integer_in}
 use Rattle.pp_parse.proofs.Fronts.{upper_behind, next_place}
 use Rattle.pp_parse.proofs.sets.upper_at.Goals as goal
 

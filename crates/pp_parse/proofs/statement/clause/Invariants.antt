@@ -6,5 +6,5 @@ ghost-is_head g a = g.qs
 abbrev pub ghost-has_mark : goal.ghost-has_mark
 ghost-has_mark g a = g.qs
 
-abbrev pub ghost-body_items : goal.ghost-body_items
-ghost-body_items g a = g.qs
+abbrev pub ghost-items : goal.ghost-items
+ghost-items g a = g.qs

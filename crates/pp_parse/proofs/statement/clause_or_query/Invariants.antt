@@ -6,5 +6,5 @@ ghost-has_mark g a = g.qs
 abbrev pub ghost-clause : goal.ghost-clause
 ghost-clause g a = g.qs
 
-abbrev pub ghost-query_items : goal.ghost-query_items
-ghost-query_items g a = g.qs
+abbrev pub ghost-items : goal.ghost-items
+ghost-items g a = g.qs

@@ -1,21 +1,25 @@
-use Rattle.std.proofs.Common.{refl}
-use Rattle.pp_run.proofs.OneWord.{not_so}
-use Rattle.pp_run.proofs.BuiltTexts.{goal_below}
-use Rattle.pp_run.proofs.Replying.{ok_map, both_ok, no_goal_reply, no_facts_reply, run_reply}
+use Rattle.std.proofs.Common.{ap, ◌∙◌, subst, Option, MatchOption, map}
+use Rattle.pp_language.specs.Printing.{name_at}
+use Rattle.pp_propagation.specs.Stores.{Begins, BeginsNowhere}
+use Rattle.pp_propagation.specs.Replies.{answer_text}
+use Rattle.pp_store.specs.Kept.{Kept}
+use Rattle.pp_store.specs.Queries.{query_by}
+use Rattle.pp_fix.specs.Fixing.{end_by}
+use Rattle.pp_run.proofs.Replying.{both_ok, nowhere_reply, run_reply}
 use Rattle.pp_run.proofs.reply.reply_of.Goals as goal
 
-pub returns-in_default : goal.returns-in_default
-returns-in_default c =
-    ok_map _ _ c.unbuilt.result (λ r h. no_goal_reply c.args.program.now c.as_slice-clauses.result.now c.as_slice.result.now c.as_slice-clauses.ensures c.as_slice.ensures r.status r.bytes.items c.in_default.ensures h) c.unbuilt.ensures
-
-pub returns-then-not-are_facts : goal.returns-then-not-are_facts
-returns-then-not-are_facts c =
-    ok_map _ _ c.unbuilt-then-not-are_facts.result (λ r h. no_facts_reply c.args.program.now c.as_slice-clauses.result.now c.as_slice.result.now c.as_slice-clauses.ensures c.as_slice.ensures r.status r.bytes.items (not_so c.are_facts.result _ c.are_facts.ensures c.if-not-are_facts.true) h) c.unbuilt-then-not-are_facts.ensures
-
-pub run-requires-clause-below : goal.run-requires-clause-below
-run-requires-clause-below c = goal_below c.args.program.now.query c.as_slice.result.now c.in-Some.pred c.in-Some.arguments.now c.in-Some.arguments.now c.requires.query c.as_slice.ensures c.in-Some.ensures refl
+pub returns-in-None : goal.returns-in-None
+returns-in-None c =
+    let q = query_by c.args.program.query in
+    let none = subst (λ (o : Option Kept). MatchOption o (BeginsNowhere q) (λ s. Begins q s.row)) c.in-None.is c.in_ok-begin.ensures.begins in
+    both_ok _ _ _ c.no.result (λ r t u. λ text writes. nowhere_reply c.args.settings c.args.program text writes r.status r.bytes.items none t u) c.no.ensures.status c.no.ensures.text
 
 pub returns : goal.returns
 returns c =
-    let o = c.in_ok-outcome.outcome in
-    both_ok _ _ _ c.answer.result (λ r t u. run_reply c.args.program.now c.as_slice-clauses.result.now c.as_slice.result.now c.as_slice-clauses.ensures c.as_slice.ensures r.status r.bytes.items c.in-Some.pred c.in-Some.arguments.now o.end o.store o.turns c.in-Some.ensures (c.are_facts.ensures.0 c.if-not-are_facts.false) c.in_ok-outcome.ensures.ran t u) c.answer.ensures.status c.answer.ensures.text
+    let q = query_by c.args.program.query in
+    let named = map (name_at c.args.program.names) c.args.program.query.named in
+    let begins = subst (λ (o : Option Kept). MatchOption o (BeginsNowhere q) (λ s. Begins q s.row)) c.in-Some.is c.in_ok-begin.ensures.begins in
+    let f = c.in_ok-fixed.fixed in
+    both_ok _ _ _ c.answer.result (λ r t u. λ text writes.
+    run_reply c.args.settings c.args.program text writes r.status r.bytes.items c.in_ok-table.table c.in_ok-table.ensures c.in-Some.store.row c.fix_alone.new.store.row f begins c.in_ok-fixed.ensures.run t
+    (u ∙ ap (λ x. answer_text c.args.program.names named x f.unfinished (end_by f.end)) c.row.ensures.row)) c.answer.ensures.status c.answer.ensures.text

@@ -1,0 +1,4 @@
+mod Widths
+mod Waking
+mod Marking
+mod Turning

@@ -1,0 +1,97 @@
+//! What a verdict makes of the store and of the goals that wait.
+ghost use Rattle.std.specs.Prelude.{◌≡◌, ◌-◌, All, IfOk, OnErr, Some, [], not, set, length, nat_eq};
+ghost use Rattle.pp_algebra.specs.Canon.{firsts};
+ghost use Rattle.pp_algebra.specs.Terms.{count};
+ghost use Rattle.pp_propagation.specs.Stores.{face, apply};
+ghost use Rattle.pp_propagation.specs.Turns.{woken, store_after};
+ghost use Rattle.pp_propagation.specs.Histories.{is_unfinished};
+ghost use Rattle.pp_term.specs.WellFormed.{IsQuery};
+ghost use Rattle.pp_wake.specs.Waiting.{IsGoalOf};
+ghost use Rattle.pp_store.specs.Kept.{IsStoreOf};
+ghost use Rattle.pp_store.specs.Queries.{goals_in, IsGoalIn, AtGoal};
+ghost use Rattle.pp_find.specs.Meanings.{verdict_by};
+ghost use Rattle.pp_fix.specs.Committing.{IsWideAt, is_fail, waits_after};
+
+use pp_find::Verdict;
+use pp_store::{Applied, Store};
+use pp_term::{Query, Row};
+use pp_wake::Wake;
+use std::alloc::AllocError;
+
+/// What a run keeps beside its store: the goals that wait, and of each goal whether its last verdict was that it is
+/// unfinished.
+#[derive(Debug, Drop)]
+pub(crate) struct Progress {
+    pub wake: Wake,
+    pub unfinished: Vec<bool>,
+}
+
+/// Wakes goals one after another.
+fn wake_all(wake: &mut Wake, goals: &[u32])
+    requires goals { All (IsGoalOf wake.old.goals) goals.now }
+    ensures goals { wake.new.goals ≡ wake.old.goals }
+    ensures waiting { wake.new.waiting ≡ firsts nat_eq wake.old.waiting goals.now }
+{
+    for goal in goals {
+        wake.wake(*goal);
+    }
+}
+
+/// Applies a row to a goal, and wakes the goals whose face that changed.
+fn narrow(
+    query: &Query,
+    store: &mut Store,
+    goal: u32,
+    given: &Row,
+    wake: &mut Wake,
+) -> Result<(), AllocError>
+    requires query { IsQuery query.now }
+    requires of_query { IsStoreOf query.now store.old }
+    requires goal { IsGoalIn query.now goal }
+    requires given { AtGoal query.now goal (λ g. count given.now.columns ≡ length (face store.old.row g).domains) }
+    requires goals { wake.old.goals ≡ length (goals_in query.now) }
+    ensures store { IfOk result (λ _. AtGoal query.now goal (λ g. store.new.row ≡ apply store.old.row g given.now)) }
+    ensures of_query { IsStoreOf query.now store.new }
+    ensures goals { wake.new.goals ≡ wake.old.goals }
+    ensures waiting { IfOk result (λ _. wake.new.waiting ≡ firsts nat_eq wake.old.waiting (woken store.old.row store.new.row [] 1 (goals_in query.now))) }
+    ensures err { OnErr result (store.new ≡ store.old) }
+{
+    let Applied {
+        store: next,
+        changed,
+    } = store.apply(query, goal, given)?;
+    wake_all(wake, changed.as_slice());
+    *store = next;
+    Ok(())
+}
+
+/// Commits a verdict of the goal that was taken from the list; false where the goal fails.
+pub(crate) fn commit(
+    query: &Query,
+    store: &mut Store,
+    goal: u32,
+    verdict: Verdict,
+    progress: &mut Progress,
+) -> Result<bool, AllocError>
+    requires query { IsQuery query.now }
+    requires of_query { IsStoreOf query.now store.old }
+    requires goal { IsGoalIn query.now goal }
+    requires wide { AtGoal query.now goal (λ g. IsWideAt (face store.old.row g) (verdict_by verdict)) }
+    requires goals { progress.old.wake.goals ≡ length (goals_in query.now) }
+    requires flags { length progress.old.unfinished.items ≡ length (goals_in query.now) }
+    ensures fails { IfOk result (λ b. b ≡ not (is_fail (verdict_by verdict))) }
+    ensures store { IfOk result (λ _. AtGoal query.now goal (λ g. store.new.row ≡ store_after store.old.row g (verdict_by verdict))) }
+    ensures of_query { IsStoreOf query.now store.new }
+    ensures goals { progress.new.wake.goals ≡ progress.old.wake.goals }
+    ensures waiting { IfOk result (λ _. progress.new.wake.waiting ≡ waits_after (goals_in query.now) store.old.row store.new.row progress.old.wake.waiting (verdict_by verdict)) }
+    ensures flags { IfOk result (λ _. progress.new.unfinished.items ≡ set progress.old.unfinished.items (goal - 1) (is_unfinished (Some (verdict_by verdict)))) }
+    ensures err { OnErr result (store.new ≡ store.old) }
+{
+    progress.unfinished[goal as usize - 1] = matches!(verdict, Verdict::Unfinished);
+    match verdict {
+        Verdict::Fail => return Ok(false),
+        Verdict::Narrow(given) => narrow(query, store, goal, &given, &mut progress.wake)?,
+        Verdict::Same | Verdict::Nothing | Verdict::Unfinished => {}
+    }
+    Ok(true)
+}

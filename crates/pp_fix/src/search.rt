@@ -1,0 +1,62 @@
+//! The search of one of a query's goals.
+ghost use Rattle.std.specs.Prelude.{◌≡◌, ◌<◌, IfOk};
+ghost use Rattle.pp_algebra.specs.Terms.{count};
+ghost use Rattle.pp_sld.specs.Verdicts.{HasVerdict};
+ghost use Rattle.pp_term.specs.Meanings.{mode_of, program, shape_of};
+ghost use Rattle.pp_term.specs.WellFormed.{arguments_of, IsQuery};
+ghost use Rattle.pp_find.specs.Meanings.{verdict_by};
+ghost use Rattle.pp_store.specs.Kept.{IsStoreOf};
+ghost use Rattle.pp_store.specs.Queries.{goals_in, IsGoalIn};
+ghost use Rattle.pp_fix.specs.Committing.{IsVerdictAt};
+
+use pp_clause::Clauses;
+use pp_find::Verdict;
+use pp_infer::infer_alone;
+use pp_store::{Store, goal_at};
+use pp_term::{Mode, Query, Row, Shape};
+use pp_walk::Steps;
+use std::alloc::{AllocError, Global};
+use std::marker::Brand;
+use std::sync::ledger::{Blank, Ledger};
+
+/// The verdict of a goal under a face. Its reductions are counted for nobody.
+fn uncounted<L: Ledger>(
+    alloc: Global,
+    blank: Blank,
+    clauses: &Clauses,
+    shape: Shape,
+    mode: Mode,
+    face: &Row,
+    depth: u32,
+) -> Result<Verdict, AllocError>
+    requires name { blank.name ≡ L.name }
+    requires parts { blank.parts ≡ L.parts }
+    requires some { 0 < blank.parts }
+    requires width { count face.now.columns ≡ arguments_of shape }
+    ensures verdict { IfOk result (λ v. HasVerdict (program clauses.now) depth (mode_of mode) (shape_of shape) face.now (verdict_by v)) }
+{
+    let mut steps: Steps<L> = Steps::new(blank);
+    infer_alone(alloc, clauses, shape, mode, face, depth, &mut steps)
+}
+
+/// The verdict of the goal of this number under its face.
+pub(crate) fn searched(
+    alloc: Global,
+    clauses: &Clauses,
+    query: &Query,
+    store: &Store,
+    goal: u32,
+    depth: u32,
+) -> Result<Verdict, AllocError>
+    requires query { IsQuery query.now }
+    requires of_query { IsStoreOf query.now store.now }
+    requires goal { IsGoalIn query.now goal }
+    ensures verdict { IfOk result (λ v. IsVerdictAt (program clauses.now) (goals_in query.now) depth store.now.row goal (verdict_by v)) }
+{
+    let Some(annotated) = goal_at(query, goal) else {
+        unreachable!()
+    };
+    let face = store.face(query, goal)?;
+    let (shape, mode) = (annotated.shape, annotated.mode);
+    uncounted::<Brand>(alloc, Blank::new(1), clauses, shape, mode, &face, depth)
+}

@@ -1,0 +1,5 @@
+//! Tests of one annotated goal, by its text.
+#![tactic(auto)]
+
+#[cfg(test)]
+mod tests;

@@ -1,4 +1,0 @@
-use Rattle.pp_parse.proofs.lookahead.has_saying.Given as goal
-
-abbrev pub ghost-term_at : goal.ghost-term_at
-ghost-term_at g a = g.qs

@@ -1,0 +1,43 @@
+use Rattle.std.proofs.Common.{◌≡◌, suc, ◌-◌, length, refl, sym, ◌∙◌, arith}
+use Rattle.pp_term.specs.Meanings.{predicate_of, program}
+use Rattle.pp_resolve.specs.Engines.{goal_of, place_of}
+use Rattle.pp_resolve.proofs.Linked.{goal_there}
+use Rattle.pp_resolve.proofs.Stepping.{at_spent, at_called, call_cost, met}
+use Rattle.pp_resolve.proofs.engine.Engine.meet_call.Goals as goal
+
+pub returns-in_err-row-clause-cost : goal.returns-in_err-row-clause-cost
+returns-in_err-row-clause-cost c =
+    let e = c.args.self.now in
+    let g = goal_there e.clauses.now (goal_of e) (length e.history.links.items) e.front.rest c.requires.good.here.rest c.requires.sees.0 in
+    let p = (c.requires.sees.1 g.0 g.1).0 in
+    call_cost e c.requires.good c.requires.wait c.requires.sees.0 g.0 g.1 (predicate_of p.0) p.2
+
+pub returns-then-self-eq0-clause-cost : goal.returns-then-self-eq0-clause-cost
+returns-then-self-eq0-clause-cost c =
+    let e = c.args.self.now in
+    let g = goal_there e.clauses.now (goal_of e) (length e.history.links.items) e.front.rest c.requires.good.here.rest c.requires.sees.0 in
+    let p = (c.requires.sees.1 g.0 g.1).0 in
+    call_cost e c.requires.good c.requires.wait c.requires.sees.0 g.0 g.1 (predicate_of p.0) p.2
+
+pub returns-clause-cost : goal.returns-clause-cost
+returns-clause-cost c =
+    let e = c.args.self.now in
+    let g = goal_there e.clauses.now (goal_of e) (length e.history.links.items) e.front.rest c.requires.good.here.rest c.requires.sees.0 in
+    let p = (c.requires.sees.1 g.0 g.1).0 in
+    call_cost e c.requires.good c.requires.wait c.requires.sees.0 g.0 g.1 (predicate_of p.0) p.2
+
+pub returns-then-self-eq0-clause-stepped : goal.returns-then-self-eq0-clause-stepped
+returns-then-self-eq0-clause-stepped c =
+    let e = c.args.self.now in
+    let g = goal_there e.clauses.now (goal_of e) (length e.history.links.items) e.front.rest c.requires.good.here.rest c.requires.sees.0 in
+    let p = (c.requires.sees.1 g.0 g.1).0 in
+    (at_spent e c.requires.good c.requires.wait c.requires.sees.0 g.0 g.1 (predicate_of p.0) p.2 c.if-self-eq0.true, c.in_ok-row.ensures, refl)
+
+pub returns-clause-stepped : goal.returns-clause-stepped
+returns-clause-stepped c =
+    let e = c.args.self.now in
+    let g = goal_there e.clauses.now (goal_of e) (length e.history.links.items) e.front.rest c.requires.good.here.rest c.requires.sees.0 in
+    let p = (c.requires.sees.1 g.0 g.1).0 in
+    let d : e.front.depth ≡ suc (e.front.depth - 1) = omega (arith, c.if-self-eq0.false) in
+    let k = at_called e c.requires.good c.requires.wait c.requires.sees.0 g.0 g.1 (predicate_of p.0) p.2 (e.front.depth - 1) d in
+    met (program e.clauses.now) (place_of e) c.count_at.result c.alternatives.result c.alternatives.ensures (k.0, k.1, k.2 ∙ sym (c.count_at.ensures p.0 p.1))

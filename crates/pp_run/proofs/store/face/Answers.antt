@@ -1,7 +1,0 @@
-use Rattle.std.proofs.Common.{◌∙◌}
-use Rattle.std.proofs.lemmas.Result.{IfOk-weaker}
-use Rattle.pp_run.proofs.StoreRows.{face_now}
-use Rattle.pp_run.proofs.store.face.Goals as goal
-
-pub returns : goal.returns
-returns c = IfOk-weaker c.canon.result _ _ (λ r e g f. e ∙ face_now c.args.store.now c.args.arguments.now c.in_ok-terms.terms.items c.domains.result.now c.in_ok-terms.ensures c.domains.ensures.domains g f) c.canon.ensures
