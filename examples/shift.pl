@@ -1,3 +1,4 @@
+% Who works the early shift? Each fact that matches has anna, so Who is anna; the ward may be either one.
 shift(anna, early, ward1).
 shift(anna, early, ward2).
 shift(ben, late, ward1).
