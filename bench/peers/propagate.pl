@@ -2,17 +2,18 @@
 % ascending lists of intervals Low-High, the modes most, unique and consistent, least generalisation of all answers.
 % It knows no depth: a search has to end.
 %
-% A text gives its clauses and the clause query(Names, Store, Given, Goals, Indices, Watchers):
+% A text gives its clauses and, in a file to be read, the term query(Names, Store, Given, Goals, Indices, Watchers):
 %   Names     a list Name=Variable of what is written
-%   Store     a term of the query's variables
+%   Store     the query's variables
 %   Given     its equations and domains, as a body
-%   Goals     a term of the annotated goals, each Mode-Goal
-%   Indices   a term with each goal's list of places in the store
-%   Watchers  a term with each variable's list of goals
+%   Goals     the annotated goals, each Mode-Goal
+%   Indices   each goal's list of places in the store
+%   Watchers  each variable's list of goals
+% Store, Goals, Indices and Watchers are terms of blocks of 200, as a term of GNU Prolog has 255 arguments at most.
 %
-% run(list) gathers a goal's answers by findall and generalises their list. run(step) joins each answer to what is known
-% so far and stops where no other answer can change it. run(plain) is what a user would write for a single goal: findall,
-% a generalisation of the list, and no second turn.
+% run(list, File) gathers a goal's answers by findall and generalises their list. With step each answer is joined to what
+% is known so far, and the search stops where no other answer can change it. With plain it is what a user would write for
+% a single goal: findall, a generalisation of the list, and no second turn.
 
 :- if(current_prolog_flag(bounded, true)).
 
@@ -141,20 +142,28 @@ once_in([Term|Terms], Column) :- ( Term == Column -> \+ among(Terms, Column) ; o
 among([Term|Terms], Variable) :- ( Term == Variable -> true ; among(Terms, Variable) ).
 
 % Turns. The goals that wait are an open list, and Waits says of each goal whether it is in it.
-run(Way) :-
-    query(Names, Store, Given, Goals, Indices, Watchers),
-    ( call(Given), functor(Goals, _, Count), numbers(1, Count, List, End), functor(Waits, waits, Count), marked(Count, Waits),
-      Flat = flat(yes), Store =.. [_|Columns], flatness(Columns, Flat),
+run(Way, File) :-
+    see(File), read(query(Names, Store, Given, Goals, Indices, Watchers)), seen,
+    ( call(Given), marks(Goals, 1, Waits, List, End), Flat = flat(yes), columns(Names, Columns), flatness(Columns, Flat),
       turns(List, End, Way, q(Store, Goals, Indices, Watchers, Waits, Flat)) -> told(Names) ; write(no), nl ).
-numbers(Low, High, List, End) :- ( Low > High -> List = End ; List = [Low|Rest], Next is Low + 1, numbers(Next, High, Rest, End) ).
-marked(0, _) :- !.
-marked(Place, Waits) :- arg(Place, Waits, yes), Before is Place - 1, marked(Before, Waits).
+
+at(Place, Blocks, Value) :- Block is (Place - 1) // 200 + 1, Rest is (Place - 1) mod 200 + 1, arg(Block, Blocks, Term), arg(Rest, Term, Value).
+put_at(Place, Blocks, Value) :- Block is (Place - 1) // 200 + 1, Rest is (Place - 1) mod 200 + 1, arg(Block, Blocks, Term), setarg(Rest, Term, Value).
+
+% All goals wait at first.
+marks(Goals, Number, Waits, List, End) :-
+    ( at(Number, Goals, _) -> List = [Number|Rest], Next is Number + 1, marks(Goals, Next, Waits, Rest, End)
+    ; List = End, functor(Goals, _, Count), functor(Waits, blocks, Count), mark(Count, Waits) ).
+mark(0, _) :- !.
+mark(Block, Waits) :- functor(Term, block, 200), yes(200, Term), arg(Block, Waits, Term), Before is Block - 1, mark(Before, Waits).
+yes(0, _) :- !.
+yes(Place, Term) :- arg(Place, Term, yes), Before is Place - 1, yes(Before, Term).
 turns(List, End, _, _) :- List == End, !.
-turns([1|_], _, plain, q(_, goals(Mode-Goal), _, _, _, _)) :- !,
-    term_variables(Goal, Variables), search(list, Mode, Goal, Variables, Verdict), !,
+turns([1|_], _, plain, q(_, Goals, _, _, _, _)) :- !,
+    at(1, Goals, Mode-Goal), term_variables(Goal, Variables), search(list, Mode, Goal, Variables, Verdict), !,
     ( Verdict = narrow(row(Columns, Domains)) -> Variables = Columns, constrained(Domains) ; Verdict = same ).
 turns([Number|List], End, Way, Query) :-
-    Query = q(_, Goals, _, _, Waits, _), setarg(Number, Waits, no), arg(Number, Goals, Mode-Goal),
+    Query = q(_, Goals, _, _, Waits, _), put_at(Number, Waits, no), at(Number, Goals, Mode-Goal),
     term_variables(Goal, Variables), search(Way, Mode, Goal, Variables, Verdict), !,
     committed(Verdict, Number, Variables, Query, End, New), turns(List, New, Way, Query).
 committed(same, _, _, _, End, End).
@@ -165,25 +174,26 @@ constrained([]).
 constrained([Variable=Domain|Domains]) :- constrain(Variable, Domain), constrained(Domains).
 woken([], _, End, End).
 woken([Number|Numbers], Waits, End, New) :-
-    ( arg(Number, Waits, yes) -> Rest = End ; setarg(Number, Waits, yes), End = [Number|Rest] ), woken(Numbers, Waits, Rest, New).
+    ( at(Number, Waits, yes) -> Rest = End ; put_at(Number, Waits, yes), End = [Number|Rest] ), woken(Numbers, Waits, Rest, New).
 
 % The goals with a changed variable: by the places of the store while it is flat (each column an atomic term or a variable
 % of its own), and from then on by a look at all goals.
 touched(Number, Changed, q(Store, Goals, Indices, Watchers, _, flat(Flat)), Touched) :-
-    ( Flat == yes -> arg(Number, Indices, Places), watching(Places, Store, Changed, Watchers, Touched)
-    ; functor(Goals, _, Last), looked(Last, Goals, Changed, Touched) ).
+    ( Flat == yes -> at(Number, Indices, Places), watching(Places, Store, Changed, Watchers, Touched)
+    ; looked(1, Goals, Changed, Touched) ).
 flatness(Columns, Flat) :- ( is_flat(Columns) -> true ; setarg(1, Flat, no) ).
 is_flat([]).
 is_flat([Column|Columns]) :- ( atomic(Column) -> true ; free(Column), \+ among(Columns, Column) ), is_flat(Columns).
 watching([], _, _, _, []).
 watching([Place|Places], Store, Changed, Watchers, Touched) :-
-    arg(Place, Store, Value),
-    ( among(Changed, Value) -> arg(Place, Watchers, Goals), append(Goals, Rest, Touched) ; Touched = Rest ),
+    at(Place, Store, Value),
+    ( among(Changed, Value) -> at(Place, Watchers, Goals), append(Goals, Rest, Touched) ; Touched = Rest ),
     watching(Places, Store, Changed, Watchers, Rest).
-looked(0, _, _, []) :- !.
 looked(Number, Goals, Changed, Touched) :-
-    arg(Number, Goals, _-Goal), term_variables(Goal, Variables),
-    ( meets(Variables, Changed) -> Touched = [Number|Rest] ; Touched = Rest ), Before is Number - 1, looked(Before, Goals, Changed, Rest).
+    ( at(Number, Goals, _-Goal) ->
+        term_variables(Goal, Variables), ( meets(Variables, Changed) -> Touched = [Number|Rest] ; Touched = Rest ),
+        Next is Number + 1, looked(Next, Goals, Changed, Rest)
+    ; Touched = [] ).
 meets([Variable|Variables], Changed) :- ( among(Changed, Variable) -> true ; meets(Variables, Changed) ).
 
 % The answer.

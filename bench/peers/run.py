@@ -81,13 +81,13 @@ class Bench:
 
     def swi(self, clauses, way, occurs=False):
         flag = "set_prolog_flag(occurs_check, true), " if occurs else ""
-        return [self.swipl, "-q", "--no-signals", "-f", HERE / "propagate.pl", "-g", f"{flag}consult('{clauses}'), run({way})", "-t", "halt"]
+        return [self.swipl, "-q", "--no-signals", "-f", HERE / "propagate.pl", "-g", f"{flag}consult('{clauses}'), run({way}, '{self.room}/query')", "-t", "halt"]
 
     def native(self, clauses):
         """The clauses and propagate.pl compiled by GNU Prolog, where that ends within the limit; the compilation is not timed."""
         made = f"{self.room}/native"
         main = f"{self.room}/main.pl"
-        pathlib.Path(main).write_text(":- initialization(main).\nmain :- argument_list([Way]), run(Way).\n")
+        pathlib.Path(main).write_text(":- initialization(main).\nmain :- argument_list([Way, File]), run(Way, File).\n")
         words = [self.gplc, "--no-top-level", "-o", made, HERE / "propagate.pl", clauses, main]
         try:
             ran = subprocess.run(words, stdout=subprocess.DEVNULL, stderr=subprocess.DEVNULL, timeout=self.options.seconds, env={**os.environ, **AREAS})
@@ -100,11 +100,12 @@ class Bench:
         given, clauses = f"{self.room}/text", f"{self.room}/clauses.pl"
         pathlib.Path(given).write_text(texts.text(name, size))
         pathlib.Path(clauses).write_text(texts.prolog(name, size))
+        pathlib.Path(f"{self.room}/query").write_text(texts.query(name, size))
         words = [self.options.program, "alone", "--depth", "10000", "--turns", "1000000"]
         first = Run(words, given, self.options.seconds)
         wanted = None if first.seconds is None else first.output
         own = self.repeated(words, given, first)
-        ways = ["step"] if name == "early" else ["plain", "list", "step"] if texts.goals(name, size) == 1 else ["list", "step"]
+        ways = texts.ways(name, size)
         swi = occurs = gnu = None
         if self.swipl:
             swi = self.better("swipl", name, size, {way: self.swi(clauses, way) for way in ways}, wanted)
@@ -112,7 +113,7 @@ class Bench:
                 occurs = self.better("swipl with occurs check", name, size, {swi[2]: self.swi(clauses, swi[2], True)}, wanted)
         native = self.gplc and ("gplc", name) not in self.slow and self.native(clauses)
         if native:
-            gnu = self.better("gplc", name, size, {way: [native, way] for way in ways}, wanted)
+            gnu = self.better("gplc", name, size, {way: [native, way, f"{self.room}/query"] for way in ways}, wanted)
         elif self.gplc:
             self.slow.add(("gplc", name))
         best = min((it[0] for it in (swi, gnu) if it), default=None)

@@ -88,7 +88,8 @@ def pigeons(n):
 def zebra(n):
     """Five houses, and for larger n houses of which no clue tells; all different by a table of permutations."""
     facts = "".join(f"all({','.join(map(str, p))}).\n" for p in itertools.permutations(range(1, n + 1)))
-    facts += "".join(f"right({i + 1},{i}).\nnext({i + 1},{i}).\nnext({i},{i + 1}).\n" for i in range(1, n))
+    facts += "".join(f"right({i + 1},{i}).\n" for i in range(1, n))
+    facts += "".join(f"next({i + 1},{i}).\nnext({i},{i + 1}).\n" for i in range(1, n))
     sorts = ["Red Green Ivory Yellow Blue", "English Spanish Ukrainian Norwegian Japanese", "Dog Snails Fox Horse Zebra", "Coffee Tea Milk Juice Water", "Gold Kools Chester Lucky Parlia"]
     given = ["English = Red", "Spanish = Dog", "Coffee = Green", "Ukrainian = Tea", "Gold = Snails", "Kools = Yellow", "Milk = 3", "Norwegian = 1", "Lucky = Juice", "Japanese = Parlia"]
     goals = [f"all({','.join(s.split() + [f'E{k}x{i}' for i in range(n - 5)])})" for k, s in enumerate(sorts)]
@@ -177,11 +178,14 @@ def variables(item):
 
 
 def prolog(name, size):
-    """The same clauses, with the built-ins by their names there and in propagate.pl, and the query as a clause."""
-    clauses, given, goals = TEXTS[name][0](size)
-    clauses = clauses.replace("#\\=", "=\\=").replace("plus(", "sum(")
-    items = [*given, *(goal for _, goal in goals)]
-    store = list(dict.fromkeys(name for item in items for name in variables(item)))
+    """The same clauses, with the built-ins by their names there and in propagate.pl."""
+    return TEXTS[name][0](size)[0].replace("#\\=", "=\\=").replace("plus(", "sum(")
+
+
+def query(name, size):
+    """The query as the term that propagate.pl reads."""
+    _, given, goals = TEXTS[name][0](size)
+    store = list(dict.fromkeys(name for item in [*given, *(goal for _, goal in goals)] for name in variables(item)))
     place = {name: i + 1 for i, name in enumerate(store)}
     places = [[place[name] for name in variables(goal)] for _, goal in goals]
     watchers = [[] for _ in store]
@@ -189,10 +193,20 @@ def prolog(name, size):
         for i in those:
             watchers[i - 1].append(number)
     term = lambda name, parts: f"{name}({','.join(map(str, parts))})"
-    shown = ",".join(f"'{name}'={name}" for name in store)
-    query = [f"[{shown}]", term("store", store), ", ".join(given) or "true", term("goals", (f"{m}-{g}" for m, g in goals)), term("indices", places), term("watchers", watchers)]
-    return clauses + f"query({query[0]}, {query[1]}, ({query[2]}), {query[3]}, {query[4]}, {query[5]}).\n"
+    blocks = lambda parts: term("blocks", (term("block", parts[i : i + 200]) for i in range(0, len(parts), 200)))
+    shown = "[" + ",".join(f"'{name}'={name}" for name in store) + "]"
+    body = "(" + (", ".join(given) or "true") + ")"
+    return term("query", [shown, blocks(store), body, blocks([f"{mode}-{goal}" for mode, goal in goals]), blocks(places), blocks(watchers)]) + ".\n"
 
 
 def goals(name, size):
     return len(TEXTS[name][0](size)[2])
+
+
+# The ways of propagate.pl that are tried where not all of them make sense: the others never end, or join each integer
+# to a domain of thousands of intervals.
+WAYS = {"early": ["step"], "ascending": ["plain"], "shuffled": ["plain"]}
+
+
+def ways(name, size):
+    return WAYS.get(name) or (["plain", "list", "step"] if goals(name, size) == 1 else ["list", "step"])
