@@ -3,6 +3,7 @@
 the same answer, and prints a table: medians of processor time of one run with the start of the process, their ratios, and
 memory at its highest. Installs nothing. The status is 1 where answers differ."""
 import argparse
+import itertools
 import os
 import pathlib
 import resource
@@ -46,7 +47,7 @@ class Run:
 class Bench:
     def __init__(self, options, room):
         self.options, self.room, self.differ = options, room, []
-        self.slow = set()
+        self.slow, self.medians = set(), {}
         self.swipl, self.gplc = shutil.which("swipl"), shutil.which("gplc")
 
     def repeated(self, words, given, first=None):
@@ -105,6 +106,7 @@ class Bench:
         first = Run(words, given, self.options.seconds)
         wanted = None if first.seconds is None else first.output
         own = self.repeated(words, given, first)
+        self.medians[name, size] = own and own[0]
         ways = texts.ways(name, size)
         swi = occurs = gnu = None
         if self.swipl:
@@ -126,6 +128,16 @@ class Bench:
         cells += [f"{time(gnu)} {gnu[2]}" if gnu else "", ratio(best), memory(own), memory(swi), memory(gnu)]
         return "| " + " | ".join(map(str, cells)) + " |"
 
+    def growth(self, name):
+        """What one more of the text's units costs, between the first sizes and between the last ones."""
+        word, count = texts.UNITS[name]
+        steps = []
+        for low, high in itertools.pairwise(texts.TEXTS[name][1]):
+            before, after = self.medians.get((name, low)), self.medians.get((name, high))
+            known = before is not None and after is not None
+            steps.append(f"{1e9 * (after - before) / (count(high) - count(low)):.0f}" if known else "")
+        return f"| {name} | {word} | {' | '.join(steps)} |"
+
     def machine(self):
         said = subprocess.run(["lscpu"], capture_output=True, text=True).stdout if shutil.which("lscpu") else ""
         facts = dict(line.split(":", 1) for line in said.splitlines() if ":" in line)
@@ -137,6 +149,10 @@ class Bench:
 
 HEAD = """| Text | Size | `propia` ms | SWI-Prolog ms, way | Ratio | Bar | Holds | with occurs check ms | GNU Prolog ms, way | Ratio to the best | `propia` MB | SWI-Prolog MB | GNU Prolog MB |
 |---|---|---|---|---|---|---|---|---|---|---|---|---|"""
+
+
+COSTS = """| Text | One more | ns, from the first size to the second | ns, from the second to the third |
+|---|---|---|---|"""
 
 
 def read_options():
@@ -165,6 +181,9 @@ def main():
             for size in texts.TEXTS[name][1][: options.sizes]:
                 lines.append(bench.row(name, size))
                 print(lines[-1], flush=True)
+        growths = [bench.growth(name) for name in options.texts or texts.TEXTS if name in texts.UNITS]
+        lines += ["", *COSTS.splitlines(), *growths]
+        print("\n".join(["", COSTS, *growths]))
         for it in bench.differ:
             print(f"ANSWERS DIFFER: {it}", file=sys.stderr)
     if options.write:

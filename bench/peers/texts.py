@@ -1,5 +1,6 @@
 """The texts that are timed, each by a size, in the language and as clauses for a Prolog system."""
 import itertools
+import math
 import random
 import re
 
@@ -210,3 +211,27 @@ WAYS = {"early": ["step"], "ascending": ["plain"], "shuffled": ["plain"]}
 
 def ways(name, size):
     return WAYS.get(name) or (["plain", "list", "step"] if goals(name, size) == 1 else ["list", "step"])
+
+
+def tries(n):
+    """How often a pigeon is put into a hole."""
+    return sum((n - 1) * math.perm(n - 1, i) for i in range(n))
+
+
+# What a text's time grows with: a word for it, and how many there are at a size.
+UNITS = {
+    "selections": ("answer that is covered", math.factorial),
+    "reverse": ("call", lambda n: 50 * (n + 1) * (n + 2)),
+    "peano": ("call", lambda n: 100 * (n + 1)),
+    "splits": ("element of an answer that is joined", lambda n: n * (n + 1)),
+    "adder": ("turn", lambda n: 2 * n),
+    "ring": ("turn", lambda n: 2 * n),
+    "table": ("fact that a goal looks at", lambda n: 116 * n),
+    "join": ("key that is looked up", lambda n: n),
+    "path": ("key that is looked up", lambda n: n),
+    "pigeons": ("pigeon put into a hole", tries),
+    "zebra": ("fact", math.factorial),
+    "ascending": ("interval", lambda n: n),
+    "shuffled": ("interval", lambda n: n),
+    "early": ("level of a term", lambda n: n),
+}
