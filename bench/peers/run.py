@@ -46,7 +46,8 @@ class Run:
 
 class Bench:
     def __init__(self, options, room):
-        self.options, self.room, self.differ = options, room, []
+        self.options, self.room = options, room
+        self.answers, self.differ = {}, []
         self.slow, self.medians = set(), {}
         self.swipl, self.gplc = shutil.which("swipl"), shutil.which("gplc")
 
@@ -61,8 +62,8 @@ class Bench:
             return None
         return statistics.median(it.seconds for it in runs), max(it.memory for it in runs)
 
-    def better(self, system, name, size, ways, wanted):
-        """The fastest of some ways, with its median; the answer of each is compared."""
+    def better(self, system, name, ways):
+        """The fastest of some ways, with its median. A way that was cut off or far slower isn't tried at a larger size."""
         firsts = {}
         for way, words in ways.items():
             if (system, name, way) not in self.slow:
@@ -71,8 +72,7 @@ class Bench:
                     self.slow.add((system, name, way))
                     continue
                 firsts[way] = run
-                if wanted is not None and run.output != wanted:
-                    self.differ.append(f"{name} {size}: {system} by {way}")
+                self.answers[f"{system} by {way}"] = run.output
         if not firsts:
             return None
         best = min(firsts, key=lambda way: firsts[way].seconds)
@@ -96,36 +96,54 @@ class Bench:
             return None
         return None if ran.returncode else made
 
-    def row(self, name, size):
-        _, _, bar = texts.TEXTS[name]
-        given, clauses = f"{self.room}/text", f"{self.room}/clauses.pl"
+    def compare(self, name, size):
+        """Notes whose answer isn't that of the first."""
+        wanted = next(iter(self.answers.values()), None)
+        self.differ += [f"{name} {size}: {who}" for who, answer in self.answers.items() if answer != wanted]
+
+    def program(self, name, size):
+        """The program's median and memory."""
+        given = f"{self.room}/text"
         pathlib.Path(given).write_text(texts.text(name, size))
-        pathlib.Path(clauses).write_text(texts.prolog(name, size))
-        pathlib.Path(f"{self.room}/query").write_text(texts.query(name, size))
         words = [self.options.program, "alone", "--depth", "10000", "--turns", "1000000"]
         first = Run(words, given, self.options.seconds)
-        wanted = None if first.seconds is None else first.output
+        self.answers = {} if first.seconds is None else {"propia": first.output}
         own = self.repeated(words, given, first)
         self.medians[name, size] = own and own[0]
+        return own
+
+    def peers(self, name, size):
+        """The medians, memory and ways of SWI-Prolog, of the same with its occurs check, and of GNU Prolog."""
+        clauses = f"{self.room}/clauses.pl"
+        pathlib.Path(clauses).write_text(texts.prolog(name, size))
+        pathlib.Path(f"{self.room}/query").write_text(texts.query(name, size))
         ways = texts.ways(name, size)
         swi = occurs = gnu = None
         if self.swipl:
-            swi = self.better("swipl", name, size, {way: self.swi(clauses, way) for way in ways}, wanted)
-            if swi:
-                occurs = self.better("swipl with occurs check", name, size, {swi[2]: self.swi(clauses, swi[2], True)}, wanted)
+            swi = self.better("swipl", name, {way: self.swi(clauses, way) for way in ways})
+        if swi:
+            occurs = self.better("swipl with occurs check", name, {swi[2]: self.swi(clauses, swi[2], True)})
         native = self.gplc and ("gplc", name) not in self.slow and self.native(clauses)
         if native:
-            gnu = self.better("gplc", name, size, {way: [native, way, f"{self.room}/query"] for way in ways}, wanted)
+            gnu = self.better("gplc", name, {way: [native, way, f"{self.room}/query"] for way in ways})
         elif self.gplc:
             self.slow.add(("gplc", name))
+        return swi, occurs, gnu
+
+    def row(self, name, size):
+        own = self.program(name, size)
+        swi, occurs, gnu = self.peers(name, size)
+        self.compare(name, size)
+        bar = texts.TEXTS[name][2]
         best = min((it[0] for it in (swi, gnu) if it), default=None)
         ratio = lambda other: f"{own[0] / other:.2f}" if own and other else ""
         time = lambda it: f"{1000 * it[0]:.0f}" if it else ""
+        with_way = lambda it: f"{time(it)} {it[2]}" if it else ""
         memory = lambda it: f"{it[1]:.0f}" if it else ""
-        holds = "" if not (own and swi) else "yes" if own[0] <= bar * swi[0] else "no"
-        own_time = time(own) if own else f"> {1000 * self.options.seconds}"
-        cells = [name, size, own_time, f"{time(swi)} {swi[2]}" if swi else "", ratio(swi and swi[0]), bar, holds, time(occurs)]
-        cells += [f"{time(gnu)} {gnu[2]}" if gnu else "", ratio(best), memory(own), memory(swi), memory(gnu)]
+        holds = "" if not swi else "yes" if own and own[0] <= bar * swi[0] and own[1] <= swi[1] else "no"
+        own_time = time(own) or f"> {1000 * self.options.seconds}"
+        cells = [name, size, own_time, with_way(swi), ratio(swi and swi[0]), bar, holds, time(occurs)]
+        cells += [with_way(gnu), ratio(best), memory(own), memory(swi), memory(gnu)]
         return "| " + " | ".join(map(str, cells)) + " |"
 
     def growth(self, name):
