@@ -152,7 +152,7 @@ TEXTS = {
     "permutations": (permutations, (6, 7, 8), 0.3),
     "selections": (selections, (6, 7, 8), 0.3),
     "reverse": (reverse, (30, 60, 120), 1.2),
-    "peano": (peano, (1250, 2500, 5000), 1.2),
+    "peano": (peano, (750, 1500, 3000), 1.2),
     "splits": (splits, (125, 250, 500), 1.2),
     "adder": (adder, (100, 300, 900), 1),
     "ring": (ring, (100, 300, 900), 1),
