@@ -233,5 +233,4 @@ UNITS = {
     "zebra": ("fact", math.factorial),
     "ascending": ("interval", lambda n: n),
     "shuffled": ("interval", lambda n: n),
-    "early": ("level of a term", lambda n: n),
 }
