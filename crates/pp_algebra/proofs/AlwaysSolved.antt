@@ -6,7 +6,8 @@ use Rattle.pp_algebra.specs.Rows.{Domain, Domains, domain_at, beside}
 use Rattle.pp_algebra.specs.Covers.{MayGo}
 use Rattle.pp_algebra.specs.Laws.{RowsSolve, PairsSolve}
 use Rattle.pp_algebra.proofs.CanonLemmas.{nat_eq-IsSame}
-use Rattle.pp_algebra.proofs.Solved.{same_either, same_either-IsSame, solved_listed}
+use Rattle.pp_algebra.proofs.Solved.{same_either-IsSame, solved_listed}
+use Rattle.pp_algebra.specs.Canon.{same_either}
 
 pub rows_solve : RowsSolve
 rows_solve ds ts items = solved_listed nat_eq nat_eq-IsSame (record { columns = ts; domains = domain_at ds }) items (λ v. v) ds (λ v. refl) (λ q b h. h)

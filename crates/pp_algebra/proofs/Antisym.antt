@@ -46,7 +46,7 @@ number v (node f ts) = v
 number v (variable w) = w
 
 -- what goes to a variable is a variable
-same_bool : (a b : Bool) → (a ≡ true → b ≡ true) → (b ≡ true → a ≡ true) → a ≡ b
+pub same_bool : (a b : Bool) → (a ≡ true → b ≡ true) → (b ≡ true → a ≡ true) → a ≡ b
 same_bool true true h k = refl
 same_bool true false h k = sym (h refl)
 same_bool false true h k = k refl

@@ -11,6 +11,7 @@ use Rattle.pp_algebra.proofs.Put.{put_all-put_all, put_all-variable}
 use Rattle.pp_algebra.proofs.Bools.{int_same, int_is, nat_same, nat_is, both_true, left_true, right_true}
 use Rattle.pp_algebra.proofs.Order.{variables_all-put_all, may_stay}
 use Rattle.pp_algebra.proofs.Antisym.{put_all-agree}
+use Rattle.std.proofs.Math.Bool.{or_assoc}
 
 -- a test of equality
 pub record IsSame {V : Type 0} (same : V → V → Bool) : Type 0 where
@@ -62,11 +63,15 @@ pub nat_eq-IsSame : IsSame nat_eq
 nat_eq-IsSame = record { itself = nat_same; is = nat_is }
 
 module _ {V : Type 0} (same : V → V → Bool) where
+  pub has-append : (vs ws : List V) (v : V) → has same (vs ++ ws) v ≡ (has same vs v || has same ws v)
+  has-append [] ws v = refl
+  has-append (x ∷ vs) ws v = ap (λ b. same x v || b) (has-append vs ws v) ∙ sym (or_assoc (same x v) (has same vs v) (has same ws v))
+
   has-front : (vs ws : List V) (v : V) → has same vs v ≡ true → has same (vs ++ ws) v ≡ true
   has-front [] ws v h = absurd (cc)
   has-front (x ∷ vs) ws v h = elim (same x v) as (λ b. (b || has same vs v) ≡ true → (b || has same (vs ++ ws) v) ≡ true) [ true ↦ λ h. refl | false ↦ λ h. has-front vs ws v h ] h
 
-  place-front : (vs ws : List V) (v : V) → has same vs v ≡ true → place same (vs ++ ws) v ≡ place same vs v
+  pub place-front : (vs ws : List V) (v : V) → has same vs v ≡ true → place same (vs ++ ws) v ≡ place same vs v
   place-front [] ws v h = absurd (cc)
   place-front (x ∷ vs) ws v h = elim (same x v) as (λ b. (b || has same vs v) ≡ true → cond b 0 (suc (place same (vs ++ ws) v)) ≡ cond b 0 (suc (place same vs v))) [ true ↦ λ h. refl | false ↦ λ h. ap suc (place-front vs ws v h) ] h
 
@@ -83,7 +88,7 @@ module _ {V : Type 0} (same : V → V → Bool) where
   place-within (x ∷ vs) v h = elim (same x v) as (λ b. (b || has same vs v) ≡ true → cond b 0 (suc (place same vs v)) < suc (length vs)) [ true ↦ λ h. omega arith | false ↦ λ h. let r = place-within vs v h in omega arith ] h
 
   -- the seen ones keep their places
-  firsts-more : (seen vs : List V) → (ws : List V) × (firsts same seen vs ≡ seen ++ ws)
+  pub firsts-more : (seen vs : List V) → (ws : List V) × (firsts same seen vs ≡ seen ++ ws)
   firsts-more seen [] = ([], sym (append-nil seen))
   firsts-more seen (v ∷ vs) = elim (has same seen v) as (λ b. (ws : List V) × (cond b (firsts same seen vs) (firsts same (seen ++ v ∷ []) vs) ≡ seen ++ ws)) [
     | true ↦ firsts-more seen vs

@@ -25,4 +25,6 @@ pub mod MembersListed
 pub mod Worked
 pub mod WideLeast
 pub mod Renamed
+pub mod Numbered
+pub mod SameText
 pub mod WorkedSolving

@@ -110,7 +110,7 @@ members-integers d = filter-ascending (set.contains d) 2000000000001 (negsuc 999
 pub members-ascend : (d : Domain) → AllPairs (λ n m. n <ℤ m) (members d)
 members-ascend d = ascending_pairs _ _ (members d) (members-integers d)
 
-in_all : (n : ℤ) → IsInteger n → IsIn n all_integers
+pub in_all : (n : ℤ) → IsInteger n → IsIn n all_integers
 unfolding all_integers
 in_all n h = in_integers 2000000000001 (negsuc 999999999999) n h.at_least (omega (arith, ints, h.at_most))
 

@@ -4,7 +4,7 @@ use Rattle.std.specs.Prelude.{cond, nat_eq}
 use Rattle.pp_algebra.specs.Terms.{Tree, Trees, int, variable, put, put_all, variables_all}
 use Rattle.pp_algebra.specs.Rows.{Domain, Domains, Pattern, Row, pattern_of, domain_at}
 use Rattle.pp_algebra.specs.Covers.{MayGo, Covers}
-use Rattle.pp_algebra.specs.Canon.{has, place, firsts, canon}
+use Rattle.pp_algebra.specs.Canon.{has, place, firsts, canon, same_either}
 use Rattle.pp_algebra.specs.Solve.{Item, membership, AllHold, Meets, IsSolved, Solvable}
 use Rattle.pp_algebra.specs.Rows.{IsWide, AreWide, IsRow}
 use Rattle.pp_algebra.proofs.Put.{put_all-put_all}
@@ -151,18 +151,11 @@ module _ {V : Type 0} (same : V → V → Bool) (s : IsSame same) (p : Pattern V
   ]
 
 -- variables of two kinds
-pub same_either : ℕ ⊎ ℕ → ℕ ⊎ ℕ → Bool
-same_either (inl v) (inl w) = nat_eq v w
-same_either (inr v) (inr w) = nat_eq v w
-same_either v w = false
-
 same_either-itself : (v : ℕ ⊎ ℕ) → same_either v v ≡ true
-unfolding same_either
 same_either-itself (inl v) = nat_same v
 same_either-itself (inr v) = nat_same v
 
 same_either-is : (v w : ℕ ⊎ ℕ) → same_either v w ≡ true → v ≡ w
-unfolding same_either
 same_either-is (inl v) (inl w) h = ap inl (nat_is v w h)
 same_either-is (inl v) (inr w) h = absurd (cc)
 same_either-is (inr v) (inl w) h = absurd (cc)

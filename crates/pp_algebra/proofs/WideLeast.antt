@@ -20,7 +20,7 @@ use Rattle.pp_algebra.proofs.Bools.{int_same}
 use Rattle.pp_algebra.proofs.SetKinds.{Kind, no_member, one_member, more_members, kind, not_one}
 use Rattle.pp_algebra.proofs.Member.{members}
 
-abbrev common : Trees ℕ → Trees ℕ → Trees (List (Tree ℕ))
+abbrev pub common : Trees ℕ → Trees ℕ → Trees (List (Tree ℕ))
 common ts us = least_trees ts (us ∷ [])
 
 -- a set that has a member, and not one alone

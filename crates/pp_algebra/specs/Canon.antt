@@ -1,5 +1,6 @@
 -- Canonical numbering: the row of a pattern, its variables numbered from 0 by first occurrence. And which trees and rows are the same.
-use Rattle.std.specs.Prelude.{◌≡◌, ℕ, suc, Bool, true, false, cond, ◌&&◌, ◌||◌, nat_eq, List, [], ◌∷◌, ◌++◌, map, Option, Some, None}
+use Rattle.std.specs.Prelude.{◌≡◌, ℕ, suc, ◌⊎◌, Bool, true, false, cond, ◌&&◌, ◌||◌, nat_eq, List, [], ◌∷◌, ◌++◌, map, Option, Some, None}
+use Rattle.std.proofs.Common.{inl, inr}
 use Rattle.std.specs.Ordering.{int_eq}
 use Rattle.std.specs.FinSet as set
 use Rattle.pp_algebra.specs.Terms.{Tree, int, node, variable, Trees, none, more, put_all, variables_all}
@@ -18,6 +19,13 @@ place same (w ∷ ws) v = cond (same w v) 0 (suc (place same ws v))
 abbrev pub firsts : {V : Type 0} → (V → V → Bool) → List V → List V → List V
 firsts same seen [] = seen
 firsts same seen (v ∷ vs) = cond (has same seen v) (firsts same seen vs) (firsts same (seen ++ v ∷ []) vs)
+
+-- variables of two kinds
+abbrev pub same_either : ℕ ⊎ ℕ → ℕ ⊎ ℕ → Bool
+same_either (inl v) (inl w) = nat_eq v w
+same_either (inl v) (inr w) = false
+same_either (inr v) (inl w) = false
+same_either (inr v) (inr w) = nat_eq v w
 
 -- none stands twice
 abbrev pub Distinct : {V : Type 0} → (V → V → Bool) → List V → Type 0

@@ -1,5 +1,5 @@
 -- Terms over numbered variables: the variables from a number on, a column by its number, and numbers counted from another one.
-use Rattle.std.specs.Prelude.{ℕ, zero, suc, pos, ◌+◌, length}
+use Rattle.std.specs.Prelude.{ℕ, zero, suc, pos, ◌+◌, [], length}
 use Rattle.pp_algebra.specs.Terms.{Tree, int, variable, Trees, none, more, put}
 use Rattle.pp_algebra.specs.Rows.{Row}
 
@@ -21,3 +21,7 @@ counted_from first t = put (λ v. variable (first + v)) t
 -- the row of a face's distinct variables, with their domains
 abbrev pub call : Row → Row
 call face = record { columns = variables_from 0 (length face.domains); domains = face.domains }
+
+-- the row of no columns
+abbrev pub no_columns : Row
+no_columns = record { columns = none; domains = [] }

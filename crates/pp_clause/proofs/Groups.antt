@@ -9,9 +9,9 @@ use Rattle.std.proofs.Math.ListN.{length-map}
 use Rattle.std.proofs.lemmas.List.{length-set}
 use Rattle.pp_algebra.specs.Canon.{has, place, firsts}
 use Rattle.pp_algebra.specs.Covers.{IsIn}
-use Rattle.pp_algebra.proofs.CanonLemmas.{has-all}
+use Rattle.pp_algebra.proofs.CanonLemmas.{has-all, place-front}
 use Rattle.pp_row.proofs.Keys.{place_past}
-use Rattle.pp_row.proofs.Numbering.{place-front, firsts-append}
+use Rattle.pp_row.proofs.Numbering.{firsts-append}
 use Rattle.pp_row.specs.Columns.{trees_of}
 use Rattle.pp_sld.specs.Goals as goals
 use Rattle.pp_sld.specs.Goals.{same_predicate}

@@ -4,9 +4,8 @@ use Rattle.std.specs.Prelude.{nat_eq, ◌||◌}
 use Rattle.std.specs.List.{list_any, position_or_len}
 use Rattle.pp_algebra.specs.Canon.{has, place, firsts}
 use Rattle.pp_algebra.proofs.Bools.{nat_same, nat_is, left_true, right_true}
-use Rattle.pp_algebra.proofs.CanonLemmas.{IsSame, has-all}
+use Rattle.pp_algebra.proofs.CanonLemmas.{IsSame, has-all, place-front}
 use Rattle.pp_row.proofs.Keys.{taken, place_now, position_place}
-use Rattle.pp_row.proofs.Numbering.{place-front}
 use Rattle.pp_term.specs.declared.pred.Pred.{Pred}
 use Rattle.pp_clause.specs.Predicates.{same_pred}
 use Rattle.pp_clause.specs.Table.{pred_of, IsGrown, IsNumber}

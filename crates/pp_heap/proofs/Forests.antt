@@ -8,19 +8,13 @@ use Rattle.pp_row.specs.Cells.{IsLegalCell}
 use Rattle.pp_row.specs.Reading.{stack, all_of, forest, IsForest, from}
 use Rattle.pp_row.specs.Codes.{stack-cells_of_all}
 use Rattle.pp_row.proofs.OneTerm.{stack-is}
-use Rattle.pp_row.proofs.Next.{next, cell_of, forest_from}
+use Rattle.pp_row.proofs.Next.{next, cell_of, forest_from, var_term}
 use Rattle.pp_algebra.specs.Terms.{Tree, int, node, variable, Trees, none, more, join}
 use Rattle.pp_algebra.specs.Least.{first, rest}
 use Rattle.pp_heap.specs.Values.{cell_at, term_at}
 
 pub term_cell : (heap : List Cell) (p : ℕ) → IsForest heap → p < length heap → cell_of (term_at heap p) ≡ cell_at heap p
 term_cell heap p f l = (next heap p (Int (pos 0)) f l).cell
-
-var_term : (t : Tree ℕ) (v : ℕ) → cell_of t ≡ Var v → t ≡ variable v
-var_term (int n) v e = absurd (cc)
-var_term (node f none) v e = absurd (cc)
-var_term (node f (more t ts)) v e = absurd (cc)
-var_term (variable w) v e = let h : w ≡ v = cc in ap variable h
 
 int_term : (t : Tree ℕ) (n : ℤ) → cell_of t ≡ Int n → t ≡ int n
 int_term (int m) n e = let h : m ≡ n = cc in ap int h

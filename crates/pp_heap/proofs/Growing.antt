@@ -2,7 +2,7 @@
 use Rattle.std.proofs.Common.{◌≡◌, ℕ, zero, suc, ◌+◌, ◌-◌, ◌<◌, ◌≤◌, ◌^◌, pos, List, [], ◌∷◌, ◌++◌, length, Option, None, refl, ap, sym, ◌∙◌, subst, inl, inr, arith, append-nil, length-append}
 use Rattle.std.proofs.Common.{replicate}
 use Rattle.std.proofs.Math.Seq.{take-append_seam}
-use Rattle.std.proofs.lemmas.List.{get_or-append-add, get_or_append_left}
+use Rattle.std.proofs.lemmas.List.{get_or-append-add, get_or_append_left, length-replicate}
 use Rattle.std.proofs.lemmas.List.Elements.{All-nil}
 use Rattle.pp_row.specs.declared.cell.Cell.{Cell}
 use Rattle.pp_row.specs.declared.cell.Cell.TheVariants as cells
@@ -163,3 +163,10 @@ pub free_slots : (st : Store) (k : ℕ) → AreFree st (replicate k (Free None))
 free_slots st zero v = (None, refl, tt)
 free_slots st (suc k) zero = (None, refl, tt)
 free_slots st (suc k) (suc v) = free_slots st k v
+
+-- so many variables whose domain is `any`, and one variable
+pub added_many : (old new : State) (n k : ℕ) → IsGood old → n ≡ length old.slots.items → length old.slots.items + k < 2 ^ 32 → IsChange old new (Added n) (with_slots (store_of old) (replicate k (Free None))) → IsWidened old new
+added_many old new n k g e l c = added old new n (replicate k (Free None)) g e (free_slots (store_of old) k) (omega (arith, l, length-append old.slots.items (replicate k (Free None)), length-replicate k (Free None))) c
+
+pub added_one : (old new : State) (n : ℕ) (d : Option ℕ) → IsGood old → IsPlace old.domains.items d → n ≡ length old.slots.items → length (old.slots.items ++ Free d ∷ []) ≤ 2 ^ 32 → IsChange old new (Added n) (with_slots (store_of old) (Free d ∷ [])) → IsWidened old new
+added_one old new n d g p e m c = added old new n (Free d ∷ []) g e (one_slot (store_of old) d p) m c

@@ -20,10 +20,6 @@ use Rattle.pp_heap.proofs.Work.{terms_of-push}
 abbrev pub vars : (ℕ → Tree ℕ) → Trees ℕ → List ℕ
 vars s ts = variables_all (put_all s ts)
 
-pub put_all-join : (s : ℕ → Tree ℕ) (ts us : Trees ℕ) → put_all s (join ts us) ≡ join (put_all s ts) (put_all s us)
-put_all-join s none us = refl
-put_all-join s (more t ts) us = ap (more (put s t)) (put_all-join s ts us)
-
 pub vars-join : (s : ℕ → Tree ℕ) (ts us : Trees ℕ) → vars s (join ts us) ≡ vars s ts ++ vars s us
 vars-join s none us = refl
 vars-join s (more t ts) us = ap (λ (l : List ℕ). variables (put s t) ++ l) (vars-join s ts us) ∙ sym (append_assoc (variables (put s t)) (vars s ts) (vars s us))

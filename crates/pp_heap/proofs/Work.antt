@@ -6,7 +6,7 @@ use Rattle.pp_row.specs.declared.cell.Cell.TheVariants.{Int, Atom, Compound, Var
 use Rattle.pp_row.specs.Cells.{arity_of, IsLegalCell}
 use Rattle.pp_row.specs.Reading.{IsForest, from}
 use Rattle.pp_row.proofs.Next.{next, count_from}
-use Rattle.pp_algebra.proofs.Joined.{count-join, join-join}
+use Rattle.pp_algebra.proofs.Joined.{count-join, join-join, join-none}
 use Rattle.pp_algebra.specs.Terms.{Trees, none, more, count, join}
 use Rattle.pp_algebra.specs.Least.{rest, arguments}
 use Rattle.pp_heap.specs.declared.spans.Span.{Span}
@@ -14,10 +14,6 @@ use Rattle.pp_heap.specs.Values.{cell_at, term_at}
 use Rattle.pp_heap.specs.Soundness.{IsCompound}
 use Rattle.pp_heap.specs.Spans.{take_trees, span_terms, terms_of, IsSpan}
 use Rattle.pp_heap.proofs.Forests.{legal_at}
-
-pub join-none : (ts : Trees ℕ) → join ts none ≡ ts
-join-none none = refl
-join-none (more t ts) = ap (more t) (join-none ts)
 
 pub terms_of-push : (heap : List Cell) (ss : List Span) (s : Span) → terms_of heap (ss ++ s ∷ []) ≡ join (span_terms heap s) (terms_of heap ss)
 terms_of-push heap [] s = sym (join-none (span_terms heap s))

@@ -17,10 +17,10 @@ use Rattle.pp_heap.specs.declared.state.Entry.{Entry}
 use Rattle.pp_heap.specs.declared.state.State.{State}
 use Rattle.pp_heap.specs.declared.bind.Meeting.{Meeting}
 use Rattle.pp_heap.specs.declared.bind.Meeting.TheVariants.{Empty, One, Many}
-use Rattle.pp_heap.specs.Values.{slot_at, slot_of, cell_at, term_at, value_term, domain_by}
+use Rattle.pp_heap.specs.Values.{slot_at, slot_of, value_term, domain_by}
 use Rattle.pp_heap.specs.Stores.{Store, store_of, entries_of, solution}
 use Rattle.pp_heap.specs.Agreement.{Agrees, AllWide, Follows, Excludes}
-use Rattle.pp_heap.specs.Soundness.{IsCompound, IsFixed, IsPlace, IsGood, IsKept}
+use Rattle.pp_heap.specs.Soundness.{IsFixed, IsPlace, IsGood, IsKept}
 use Rattle.pp_heap.specs.Spans.{sizes}
 
 pub record IsFree (st : Store) (x : ℕ) (d : Option ℕ) : Type 0 where

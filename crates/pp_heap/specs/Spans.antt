@@ -1,8 +1,8 @@
 -- Terms that are still to be walked, and how much work they are.
-use Rattle.std.specs.Prelude.{◌≡◌, ℕ, zero, suc, ◌+◌, ◌*◌, ◌<◌, ◌≤◌, List, [], ◌∷◌, ◌++◌, length, All, ◌↔◌}
+use Rattle.std.specs.Prelude.{◌≡◌, ℕ, zero, suc, ◌+◌, ◌*◌, ◌<◌, ◌≤◌, List, [], ◌∷◌, length}
 use Rattle.pp_row.specs.declared.cell.Cell.{Cell}
 use Rattle.pp_row.specs.Reading.{from}
-use Rattle.pp_algebra.specs.Terms.{Tree, int, node, variable, Trees, none, more, put_all, count, join, size_all}
+use Rattle.pp_algebra.specs.Terms.{Tree, Trees, none, more, put_all, count, join, size_all}
 use Rattle.pp_algebra.specs.Least.{rest}
 use Rattle.pp_heap.specs.declared.spans.Span.{Span}
 

@@ -3,14 +3,9 @@ use Rattle.std.proofs.Common.{◌≡◌, ℕ, ◌<◌, ◌≤◌, Bool, true, fa
 use Rattle.std.specs.List.{list_any}
 use Rattle.std.proofs.lemmas.Bool.{and_parts, and_left, and_right, or_cases, or_from, or_left, or_right, leb-true, lt-leb, eqb-true, ne_eqb}
 use Rattle.pp_language.specs.Texts.{is_between, is_digit, is_lower, is_upper, is_underscore, is_word}
+use Rattle.pp_language.specs.Kinds.{begins_variable}
 
--- the bytes that begin a number, a variable, a mark
-abbrev pub begins_number : ℕ → Bool
-begins_number b = is_digit b || nat_eq b 45
-
-abbrev pub begins_variable : ℕ → Bool
-begins_variable b = is_upper b || is_underscore b
-
+-- the bytes that begin a mark
 abbrev pub mark_bytes : List ℕ
 mark_bytes = 40 ∷ 41 ∷ 91 ∷ 93 ∷ 44 ∷ 46 ∷ 58 ∷ 63 ∷ 61 ∷ 35 ∷ []
 

@@ -10,10 +10,10 @@ use Rattle.pp_language.specs.Texts.{Text}
 use Rattle.pp_algebra.specs.Texts.{same_text}
 use Rattle.pp_language.specs.Kinds.{value_of}
 use Rattle.pp_language.specs.Commands.{Setting, worker_count, look_ahead, search_depth, turn_count, option_name, kind_name, is_number, Entry, sets, traces, counts, IsEntry, AreEntries, values, trace_count, numbers, numbers_of, is_allowed, AreWordsOf}
-use Rattle.pp_language.proofs.Forms.{same_text-true}
 use Rattle.pp_language.proofs.CommandsRead.{left_behind, setting_named, valued, or_later, assigned, single, with_entry, entries_from, is_once, kind_by, command_by, checked, asked_with, asked_by}
+use Rattle.pp_algebra.proofs.SameText.{same_text-is}
 
-left_whole : (bs cs ds : Text) → left_behind bs cs ≡ Some ds → cs ≡ bs ++ ds
+pub left_whole : (bs cs ds : Text) → left_behind bs cs ≡ Some ds → cs ≡ bs ++ ds
 left_whole [] cs ds e = cc (e)
 left_whole (b ∷ bs) [] ds e = absurd (cc e)
 left_whole (b ∷ bs) (c ∷ cs) ds e =
@@ -49,7 +49,7 @@ single_is w e h =
     elim (is_number w) as (λ v. is_number w ≡ v → cond v (Some (counts (value_of 0 w))) (cond (same_text w (codes "--trace")) (Some traces) (assigned w)) ≡ Some e → IsEntry (w ∷ []) e) [
       | true ↦ λ t f. let same : e ≡ counts (value_of 0 w) = cc f in rw same (w, (t, refl), refl)
       | false ↦ λ t f. elim (same_text w (codes "--trace")) as (λ v. same_text w (codes "--trace") ≡ v → cond v (Some traces) (assigned w) ≡ Some e → IsEntry (w ∷ []) e) [
-        | true ↦ λ t f. let same : e ≡ traces = cc f in rw same (ap (λ x. x ∷ []) (same_text-true w (codes "--trace") t))
+        | true ↦ λ t f. let same : e ≡ traces = cc f in rw same (ap (λ x. x ∷ []) (same_text-is w (codes "--trace") t))
         | false ↦ λ t f. assigned_is w e f
       ] refl f
     ] refl h
@@ -57,7 +57,7 @@ single_is w e h =
 tested : (w x : Text) (t s : Setting) (later : Option Setting) → cond (same_text w x) (Some t) later ≡ Some s → x ≡ option_name t → (later ≡ Some s → w ≡ option_name s) → w ≡ option_name s
 tested w x t s later h name next =
     elim (same_text w x) as (λ v. same_text w x ≡ v → cond v (Some t) later ≡ Some s → w ≡ option_name s) [
-      | true ↦ λ e f. let same : t ≡ s = cc f in same_text-true w x e ∙ name ∙ ap option_name same
+      | true ↦ λ e f. let same : t ≡ s = cc f in same_text-is w x e ∙ name ∙ ap option_name same
       | false ↦ λ e f. next f
     ] refl h
 
@@ -108,15 +108,15 @@ record IsNamed (w : Text) (ns : List ℕ) (kind : CommandKind) : Type 0 where
 named_kind : (w : Text) (ns : List ℕ) (kind : CommandKind) → kind_by w ns ≡ Some kind → IsNamed w ns kind
 named_kind w [] kind h =
     elim (same_text w (codes "run")) as (λ v. same_text w (codes "run") ≡ v → cond v (Some Run) (cond (same_text w (codes "alone")) (Some Alone) None) ≡ Some kind → IsNamed w [] kind) [
-      | true ↦ λ t f. let same : kind ≡ Run = cc f in rw same (record { name = same_text-true w (codes "run") t; numbers = refl })
+      | true ↦ λ t f. let same : kind ≡ Run = cc f in rw same (record { name = same_text-is w (codes "run") t; numbers = refl })
       | false ↦ λ t f. elim (same_text w (codes "alone")) as (λ v. same_text w (codes "alone") ≡ v → cond v (Some Alone) None ≡ Some kind → IsNamed w [] kind) [
-        | true ↦ λ t f. let same : kind ≡ Alone = cc f in rw same (record { name = same_text-true w (codes "alone") t; numbers = refl })
+        | true ↦ λ t f. let same : kind ≡ Alone = cc f in rw same (record { name = same_text-is w (codes "alone") t; numbers = refl })
         | false ↦ λ t f. absurd (cc f)
       ] refl f
     ] refl h
 named_kind w (n ∷ []) kind h =
     elim (same_text w (codes "make")) as (λ v. same_text w (codes "make") ≡ v → cond v (Some (Make n)) None ≡ Some kind → IsNamed w (n ∷ []) kind) [
-      | true ↦ λ t f. let same : kind ≡ Make n = cc f in rw same (record { name = same_text-true w (codes "make") t; numbers = refl })
+      | true ↦ λ t f. let same : kind ≡ Make n = cc f in rw same (record { name = same_text-is w (codes "make") t; numbers = refl })
       | false ↦ λ t f. absurd (cc f)
     ] refl h
 named_kind w (n ∷ m ∷ ns) kind h = absurd (cc h)

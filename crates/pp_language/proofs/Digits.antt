@@ -4,11 +4,11 @@ use Rattle.std.proofs.lemmas.List.{take_more}
 use Rattle.pp_language.specs.Texts.{Text}
 use Rattle.pp_language.specs.Kinds.{value_of}
 
-value_of-append : (n : ℕ) (bs cs : Text) → value_of n (bs ++ cs) ≡ value_of (value_of n bs) cs
+pub value_of-append : (n : ℕ) (bs cs : Text) → value_of n (bs ++ cs) ≡ value_of (value_of n bs) cs
 value_of-append n [] cs = refl
 value_of-append n (b ∷ bs) cs = value_of-append (10 * n + (b - 48)) bs cs
 
-value_grows : (n : ℕ) (bs : Text) → n ≤ value_of n bs
+pub value_grows : (n : ℕ) (bs : Text) → n ≤ value_of n bs
 value_grows n [] = omega arith
 value_grows n (b ∷ bs) = omega (arith, value_grows (10 * n + (b - 48)) bs)
 

@@ -3,13 +3,14 @@ use Rattle.std.proofs.Common.{◌≡◌, ℕ, zero, suc, Bool, true, false, ◌&
 use Rattle.std.specs.Prelude.{codes, All}
 use Rattle.std.specs.List.{list_all, list_any}
 use Rattle.std.proofs.lemmas.Bool.{and_left, or_from, or_parts, both_ways, false_from_ne_true, true_from_ne_false}
-use Rattle.std.proofs.lemmas.Slice.Eq.{bytes_eq-Decides}
 use Rattle.pp_language.specs.declared.token.Kind.{Kind}
 use Rattle.pp_language.specs.declared.token.Kind.TheVariants.{Integer, Atom, Quoted, Infers, Variable, Left, Right, OpenSquare, CloseSquare, Comma, Point, Range, Neck, Ask, Equals, InDomain, Less, AtMost, Equal, Differ}
 use Rattle.pp_language.specs.Texts.{Text, is_digit, is_lower, is_word}
 use Rattle.pp_algebra.specs.Texts.{same_text}
-use Rattle.pp_language.specs.Kinds.{are_digits, is_number_text, is_word_from, is_variable_text, is_quoted_rest, is_quoted, spells, has_form}
-use Rattle.pp_language.proofs.Bytes.{begins_variable, mark_bytes, begins_mark, Begins, digit_begins, lower_begins, variable_begins, minus_begins, quote_begins}
+use Rattle.pp_language.specs.Kinds.{are_digits, is_number_text, is_word_from, is_variable_text, is_quoted_rest, is_quoted, spells, has_form, begins_variable}
+use Rattle.pp_language.proofs.Bytes.{mark_bytes, begins_mark, Begins, digit_begins, lower_begins, variable_begins, minus_begins, quote_begins}
+use Rattle.pp_algebra.proofs.SameText.{same_text-is}
+use Rattle.std.proofs.Math.Bool.{or-false}
 
 -- the texts of the tokens that have only one
 abbrev pub marks : List Text
@@ -26,9 +27,6 @@ list_any-false : {A : Type 0} (f : A → Bool) (xs : List A) → list_any f xs �
 list_any-false f [] h k d l = absurd (omega arith)
 list_any-false f (x ∷ xs) h zero d l = (or_parts (f x) (list_any f xs) h).0
 list_any-false f (x ∷ xs) h (suc k) d l = list_any-false f xs (or_parts (f x) (list_any f xs) h).1 k d (omega arith)
-
-pub same_text-true : (bs cs : Text) → same_text bs cs ≡ true → bs ≡ cs
-same_text-true bs cs = (bytes_eq-Decides bs cs).0
 
 record NoForm (bs : Text) : Type 0 where
   number : is_number_text bs ≡ false
@@ -52,7 +50,7 @@ no_form bs h =
     }
 
 no_infers : (bs : Text) → is_word_from is_lower bs ≡ false → same_text bs (codes "infers") ≡ false
-no_infers bs h = false_from_ne_true _ (λ e. both_ways _ h (subst (λ t. is_word_from is_lower t ≡ true) (sym (same_text-true bs (codes "infers") e)) refl))
+no_infers bs h = false_from_ne_true _ (λ e. both_ways _ h (subst (λ t. is_word_from is_lower t ≡ true) (sym (same_text-is bs (codes "infers") e)) refl))
 
 spells-none : (k : Kind) (bs : Text) → NoForm bs → spells k bs ≡ false
 spells-none Integer bs h = and_left (is_number_text bs) _ h.number
@@ -99,24 +97,20 @@ is_mark-none b bs h =
 form_begins : {d m l q v : Bool} (b : ℕ) (bs : Text) → Begins d m l q v false b → any_form (b ∷ bs) ≡ shape d m l q v false (list_all is_digit bs) (are_digits bs) (list_all is_word bs) (is_quoted_rest bs)
 form_begins b bs g = shape_at _ _ _ _ _ _ _ _ _ _ _ _ (list_all is_digit bs) (are_digits bs) (list_all is_word bs) (is_quoted_rest bs) g.number_is g.minus_is g.lower_is g.quote_is g.variable_is (is_mark-none b bs g.mark_is)
 
-or_none : (t : Bool) → (t || false) ≡ t
-or_none true = refl
-or_none false = refl
-
 pub form_of_digit : (b : ℕ) (bs : Text) → is_digit b ≡ true → any_form (b ∷ bs) ≡ list_all is_digit bs
-form_of_digit b bs h = form_begins b bs (digit_begins b h) ∙ simp or_none
+form_of_digit b bs h = form_begins b bs (digit_begins b h) ∙ simp or-false
 
 pub form_of_minus : (bs : Text) → any_form (45 ∷ bs) ≡ are_digits bs
-form_of_minus bs = form_begins 45 bs minus_begins ∙ simp or_none
+form_of_minus bs = form_begins 45 bs minus_begins ∙ simp or-false
 
 pub form_of_lower : (b : ℕ) (bs : Text) → is_lower b ≡ true → any_form (b ∷ bs) ≡ list_all is_word bs
-form_of_lower b bs h = form_begins b bs (lower_begins b h) ∙ simp or_none
+form_of_lower b bs h = form_begins b bs (lower_begins b h) ∙ simp or-false
 
 pub form_of_quote : (bs : Text) → any_form (39 ∷ bs) ≡ is_quoted_rest bs
-form_of_quote bs = form_begins 39 bs quote_begins ∙ simp or_none
+form_of_quote bs = form_begins 39 bs quote_begins ∙ simp or-false
 
 pub form_of_variable : (b : ℕ) (bs : Text) → begins_variable b ≡ true → any_form (b ∷ bs) ≡ list_all is_word bs
-form_of_variable b bs h = form_begins b bs (variable_begins b h) ∙ simp or_none
+form_of_variable b bs h = form_begins b bs (variable_begins b h) ∙ simp or-false
 
 pub form_of_other : (b : ℕ) (bs : Text) → Begins false false false false false false b → any_form (b ∷ bs) ≡ false
 form_of_other b bs g = form_begins b bs g

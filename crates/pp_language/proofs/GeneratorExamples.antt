@@ -6,9 +6,9 @@ use Rattle.std.specs.FinSet as set
 use Rattle.pp_language.specs.Texts.{Text}
 use Rattle.pp_language.specs.Answers.{lines}
 use Rattle.pp_language.specs.Told.{summary_lines}
-use Rattle.pp_language.specs.Examples.{one_or_two}
 use Rattle.pp_language.proofs.WorkedExamples.{ranges_follow_columns}
 use Rattle.pp_language.specs.GeneratorExamples.{FirstNumbers, FirstAdder, LastAdder, ProgramLines, QueryOfTwo, LinesOfThree, ChangeIsTold, SummaryIsWritten, FailureIsSummed}
+use Rattle.pp_algebra.specs.Examples.{one_or_two}
 
 pub first_numbers : FirstNumbers
 first_numbers = refl

@@ -19,3 +19,4 @@ pub mod CommandExamples
 pub mod GeneratorExamples
 pub mod Digits
 pub mod ReadingExamples
+pub mod SameKeys

@@ -7,9 +7,9 @@ use Rattle.pp_language.specs.declared.token.Kind.{Kind}
 use Rattle.pp_language.specs.declared.token.Kind.TheVariants.{Integer, Atom, Quoted, Infers, Variable, Left, Right, OpenSquare, CloseSquare, Comma, Point, Range, Neck, Ask, Equals, InDomain, Less, AtMost, Equal, Differ}
 use Rattle.pp_language.specs.Texts.{Text, is_digit, is_lower, is_word}
 use Rattle.pp_algebra.specs.Texts.{same_text}
-use Rattle.pp_language.specs.Kinds.{are_digits, is_number_text, is_word_from, is_quoted_rest, spells}
-use Rattle.pp_language.proofs.Bytes.{begins_number, begins_variable, lower_begins, variable_begins}
-use Rattle.pp_language.proofs.Forms.{same_text-true}
+use Rattle.pp_language.specs.Kinds.{are_digits, is_number_text, is_word_from, is_quoted_rest, spells, begins_number, begins_variable}
+use Rattle.pp_language.proofs.Bytes.{lower_begins, variable_begins}
+use Rattle.pp_algebra.proofs.SameText.{same_text-is}
 
 mark_kind : Text → Kind
 mark_kind bs =
@@ -60,22 +60,22 @@ kind_is Variable (b ∷ bs) h =
     ∙ cond-false (is_lower b) _ _ g.lower_is
     ∙ cond-false (nat_eq b 39) _ _ g.quote_is
     ∙ cond-true (begins_variable b) _ _ v
-kind_is Infers bs h = subst (λ t. kind_of t ≡ Infers) (sym (same_text-true bs (codes "infers") h)) refl
-kind_is Left bs h = subst (λ t. kind_of t ≡ Left) (sym (same_text-true bs (codes "(") h)) refl
-kind_is Right bs h = subst (λ t. kind_of t ≡ Right) (sym (same_text-true bs (codes ")") h)) refl
-kind_is OpenSquare bs h = subst (λ t. kind_of t ≡ OpenSquare) (sym (same_text-true bs (codes "[") h)) refl
-kind_is CloseSquare bs h = subst (λ t. kind_of t ≡ CloseSquare) (sym (same_text-true bs (codes "]") h)) refl
-kind_is Comma bs h = subst (λ t. kind_of t ≡ Comma) (sym (same_text-true bs (codes ",") h)) refl
-kind_is Point bs h = subst (λ t. kind_of t ≡ Point) (sym (same_text-true bs (codes ".") h)) refl
-kind_is Range bs h = subst (λ t. kind_of t ≡ Range) (sym (same_text-true bs (codes "..") h)) refl
-kind_is Neck bs h = subst (λ t. kind_of t ≡ Neck) (sym (same_text-true bs (codes ":-") h)) refl
-kind_is Ask bs h = subst (λ t. kind_of t ≡ Ask) (sym (same_text-true bs (codes "?-") h)) refl
-kind_is Equals bs h = subst (λ t. kind_of t ≡ Equals) (sym (same_text-true bs (codes "=") h)) refl
-kind_is InDomain bs h = subst (λ t. kind_of t ≡ InDomain) (sym (same_text-true bs (codes "::") h)) refl
-kind_is Less bs h = subst (λ t. kind_of t ≡ Less) (sym (same_text-true bs (codes "#<") h)) refl
-kind_is AtMost bs h = subst (λ t. kind_of t ≡ AtMost) (sym (same_text-true bs (codes "#=<") h)) refl
-kind_is Equal bs h = subst (λ t. kind_of t ≡ Equal) (sym (same_text-true bs (codes "#=") h)) refl
-kind_is Differ bs h = subst (λ t. kind_of t ≡ Differ) (sym (same_text-true bs (codes "#\\=") h)) refl
+kind_is Infers bs h = subst (λ t. kind_of t ≡ Infers) (sym (same_text-is bs (codes "infers") h)) refl
+kind_is Left bs h = subst (λ t. kind_of t ≡ Left) (sym (same_text-is bs (codes "(") h)) refl
+kind_is Right bs h = subst (λ t. kind_of t ≡ Right) (sym (same_text-is bs (codes ")") h)) refl
+kind_is OpenSquare bs h = subst (λ t. kind_of t ≡ OpenSquare) (sym (same_text-is bs (codes "[") h)) refl
+kind_is CloseSquare bs h = subst (λ t. kind_of t ≡ CloseSquare) (sym (same_text-is bs (codes "]") h)) refl
+kind_is Comma bs h = subst (λ t. kind_of t ≡ Comma) (sym (same_text-is bs (codes ",") h)) refl
+kind_is Point bs h = subst (λ t. kind_of t ≡ Point) (sym (same_text-is bs (codes ".") h)) refl
+kind_is Range bs h = subst (λ t. kind_of t ≡ Range) (sym (same_text-is bs (codes "..") h)) refl
+kind_is Neck bs h = subst (λ t. kind_of t ≡ Neck) (sym (same_text-is bs (codes ":-") h)) refl
+kind_is Ask bs h = subst (λ t. kind_of t ≡ Ask) (sym (same_text-is bs (codes "?-") h)) refl
+kind_is Equals bs h = subst (λ t. kind_of t ≡ Equals) (sym (same_text-is bs (codes "=") h)) refl
+kind_is InDomain bs h = subst (λ t. kind_of t ≡ InDomain) (sym (same_text-is bs (codes "::") h)) refl
+kind_is Less bs h = subst (λ t. kind_of t ≡ Less) (sym (same_text-is bs (codes "#<") h)) refl
+kind_is AtMost bs h = subst (λ t. kind_of t ≡ AtMost) (sym (same_text-is bs (codes "#=<") h)) refl
+kind_is Equal bs h = subst (λ t. kind_of t ≡ Equal) (sym (same_text-is bs (codes "#=") h)) refl
+kind_is Differ bs h = subst (λ t. kind_of t ≡ Differ) (sym (same_text-is bs (codes "#\\=") h)) refl
 
 pub same_kind : (k h : Kind) (bs : Text) → spells k bs ≡ true → spells h bs ≡ true → k ≡ h
 same_kind k h bs p q = sym (kind_is k bs p) ∙ kind_is h bs q

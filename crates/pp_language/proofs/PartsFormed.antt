@@ -26,14 +26,11 @@ abbrev IsFormed : Option State → Type 0
 IsFormed None = Unit {0}
 IsFormed (Some s) = Formed s.arguments s.groups s.parts
 
-both : (a b : Bool) → a ≡ true → b ≡ true → (a && b) ≡ true
-both = and_from
-
 phrase_formed : (p : Phrase) (gs : List Group) (qs : List Part) → is_phrase p ≡ true → are_groups gs ≡ true → are_parts qs ≡ true → IsFormed (with_phrase p gs qs)
-phrase_formed p [] qs h g q = record { arguments = refl; groups = refl; parts = both (is_phrase p) (are_parts qs) h q }
+phrase_formed p [] qs h g q = record { arguments = refl; groups = refl; parts = and_from (is_phrase p) (are_parts qs) h q }
 phrase_formed p (wanting ps ∷ gs) qs h g q =
     let i = and_parts (are_phrases ps) (are_groups gs) g in
-    record { arguments = refl; groups = both (is_phrase p && are_phrases ps) (are_groups gs) (both (is_phrase p) (are_phrases ps) h i.0) i.1; parts = q }
+    record { arguments = refl; groups = and_from (is_phrase p && are_phrases ps) (are_groups gs) (and_from (is_phrase p) (are_phrases ps) h i.0) i.1; parts = q }
 phrase_formed p (filled o ps ∷ gs) qs h g q = tt
 
 left_formed : (gs : List Group) (qs : List Part) → are_groups gs ≡ true → are_parts qs ≡ true → IsFormed (with_left gs qs)
@@ -47,7 +44,7 @@ comma_formed (wanting ps ∷ gs) qs g q = tt
 comma_formed (filled p ps ∷ gs) qs g q = record { arguments = refl; groups = g; parts = q }
 
 mark_formed : (k : Kind) (gs : List Group) (qs : List Part) → is_mark k ≡ true → are_groups gs ≡ true → are_parts qs ≡ true → IsFormed (with_mark k gs qs)
-mark_formed k [] qs h g q = record { arguments = refl; groups = refl; parts = both (is_mark k) (are_parts qs) h q }
+mark_formed k [] qs h g q = record { arguments = refl; groups = refl; parts = and_from (is_mark k) (are_parts qs) h q }
 mark_formed k (x ∷ gs) qs h g q = tt
 
 other_formed : (k : Kind) (bs : Text) (gs : List Group) (qs : List Part) → are_groups gs ≡ true → are_parts qs ≡ true → IsFormed (with_other k bs gs qs)

@@ -10,7 +10,7 @@ use Rattle.pp_language.specs.Kinds.{spells}
 use Rattle.pp_language.specs.Words.{Word, word}
 use Rattle.pp_language.specs.Phrases.{Phrase, integer_phrase, variable_phrase, said, Phrases, no_phrases, phrase_and, phrase_words, group_words, more_phrase_words, Part, mark_text, parts_words}
 use Rattle.pp_language.specs.PartsOf.{Group, wanting, filled, State, with_phrase, with_left, with_comma, with_mark, with_other, with_word, step, whole, state_of, parts_of, open_words}
-use Rattle.pp_language.proofs.Forms.{same_text-true}
+use Rattle.pp_algebra.proofs.SameText.{same_text-is}
 
 -- the words that are read, in their order
 abbrev pub read_words : Phrases → List Group → List Part → List Word
@@ -26,7 +26,7 @@ Spells w ws (Some s) = state_words s ≡ w ∷ ws
 
 -- a word of a kind with one text has this text
 texted : (k : Kind) (bs cs : Text) → same_text bs cs ≡ true → word k bs ≡ word k cs
-texted k bs cs h = ap (word k) (same_text-true bs cs h)
+texted k bs cs h = ap (word k) (same_text-is bs cs h)
 
 phrase_spells : (w : Word) (p : Phrase) (us : List Word) (gs : List Group) (qs : List Part) → phrase_words p ≡ w ∷ us → Spells w (us ++ (flat_map open_words gs ++ parts_words qs)) (with_phrase p gs qs)
 phrase_spells w p us [] qs h = ap (λ ws. ws ++ parts_words qs) h

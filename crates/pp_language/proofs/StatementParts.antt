@@ -2,7 +2,7 @@
 use Rattle.std.proofs.Common.{◌≡◌, true, false, List, [], ◌∷◌, ◌++◌, refl, sym, ◌∙◌}
 use Rattle.std.specs.Prelude.{Bool, not, ◌&&◌}
 use Rattle.std.specs.List.{list_all}
-use Rattle.std.proofs.lemmas.Bool.{and_parts}
+use Rattle.std.proofs.lemmas.Bool.{and_parts, and_from}
 use Rattle.pp_language.specs.declared.token.Kind.{Kind}
 use Rattle.pp_language.specs.declared.token.Kind.TheVariants.{Integer, Atom, Quoted, Infers, Variable, Left, Right, OpenSquare, CloseSquare, Comma, Point, Range, Neck, Ask, Equals, InDomain, Less, AtMost, Equal, Differ}
 use Rattle.pp_language.specs.Words.{Word, is_atom_kind, is_name_kind, is_built_in, atom_of}
@@ -12,14 +12,9 @@ use Rattle.pp_language.specs.Statements.{Bounds, one_bound, two_bounds, SetPhras
 use Rattle.pp_language.proofs.PartsRead.{same_parts}
 use Rattle.pp_language.proofs.OneItems.{statement-is, clause_is, query_is}
 
-both : (a b : Bool) → a ≡ true → b ≡ true → (a && b) ≡ true
-both true true h g = refl
-both true false h g = g
-both false b h g = h
-
 pub all-append : {A : Type 0} (p : A → Bool) (xs ys : List A) → list_all p xs ≡ true → list_all p ys ≡ true → list_all p (xs ++ ys) ≡ true
 all-append p [] ys h g = g
-all-append p (x ∷ xs) ys h g = let k = and_parts (p x) (list_all p xs) h in both (p x) (list_all p (xs ++ ys)) k.0 (all-append p xs ys k.1 g)
+all-append p (x ∷ xs) ys h g = let k = and_parts (p x) (list_all p xs) h in and_from (p x) (list_all p (xs ++ ys)) k.0 (all-append p xs ys k.1 g)
 
 bounds_are : (b : Bounds) → are_parts (bounds_parts b) ≡ true
 bounds_are (one_bound n) = refl
@@ -84,14 +79,14 @@ compared_terms false true c h g l = h
 compared_terms false false c h g l = g
 
 item_are : (i : Item) → is_item i ≡ true → are_parts (item_parts i) ≡ true
-item_are (calls p) h = both (is_phrase p) true (callable_is_phrase p h) refl
+item_are (calls p) h = and_from (is_phrase p) true (callable_is_phrase p h) refl
 item_are (equates p q) h = let k = and_parts (is_phrase p) (is_phrase q) h in two_terms (is_phrase p) (is_phrase q) k.0 k.1
-item_are (belongs p s) h = both (is_phrase p) (are_parts (set_parts s)) h (set_are s)
+item_are (belongs p s) h = and_from (is_phrase p) (are_parts (set_parts s)) h (set_are s)
 item_are (compares c p q) h =
     let k = and_parts (is_comparison c && is_phrase p) (is_phrase q) h in
     let l = and_parts (is_comparison c) (is_phrase p) k.0 in
     compared_terms (is_mark c) (is_phrase p) (is_phrase q) (comparison_is_mark c l.0) l.1 k.1
-item_are (asks p m) h = both (is_phrase p) true (callable_is_phrase p h) refl
+item_are (asks p m) h = and_from (is_phrase p) true (callable_is_phrase p h) refl
 
 more_are : (is : List Item) → list_all is_item is ≡ true → are_parts (more_items is) ≡ true
 more_are [] h = refl
@@ -129,10 +124,10 @@ atom_is_name Differ h = absurd (cc)
 
 pub statement_are : (s : Statement) → is_statement s ≡ true → are_parts (statement_parts s) ≡ true
 statement_are (directive w) h = let k = atom_is_name w.kind h in rw k refl
-statement_are (clause p []) h = both (is_phrase p) true (head_is_phrase p (clause_is p [] h).0) refl
+statement_are (clause p []) h = and_from (is_phrase p) true (head_is_phrase p (clause_is p [] h).0) refl
 statement_are (clause p (i ∷ is)) h =
     let k = clause_is p (i ∷ is) h in
-    both (is_phrase p) (are_parts (items_parts (i ∷ is))) (head_is_phrase p k.0) (items_are (i ∷ is) k.1)
+    and_from (is_phrase p) (are_parts (items_parts (i ∷ is))) (head_is_phrase p k.0) (items_are (i ∷ is) k.1)
 statement_are (query is) h = items_are is (query_is is h).1
 
 pub says_once : (ws : List Word) (s t : Statement) → Says ws s → Says ws t → s ≡ t

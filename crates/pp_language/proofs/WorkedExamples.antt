@@ -7,7 +7,8 @@ use Rattle.pp_algebra.specs.Members.{members}
 use Rattle.pp_algebra.proofs.MembersListed.{members-from_list}
 use Rattle.pp_language.specs.Texts.{Text}
 use Rattle.pp_language.specs.Printing.{variable_text, integers_text, behind_columns}
-use Rattle.pp_language.specs.Examples.{one_or_two, two_or_three, AdjacentIntegersJoin, SpacedAtomIsQuoted, QuoteIsDoubled, InfersIsQuoted, PlainAtomIsPlain, CompoundIsWritten, RangesFollowColumns, NoLine, UsageLine}
+use Rattle.pp_language.specs.Examples.{AdjacentIntegersJoin, SpacedAtomIsQuoted, QuoteIsDoubled, InfersIsQuoted, PlainAtomIsPlain, CompoundIsWritten, RangesFollowColumns, NoLine, UsageLine}
+use Rattle.pp_algebra.specs.Examples.{one_or_two, two_or_three}
 
 pub adjacent_integers_join : AdjacentIntegersJoin
 unfolding digits

@@ -2,10 +2,11 @@
 use Rattle.std.specs.Prelude.{◌≡◌, pos, negsuc, List, [], ◌∷◌, Some, codes}
 use Rattle.std.specs.FinSet as set
 use Rattle.pp_algebra.specs.Terms.{node, variable, none, more}
-use Rattle.pp_algebra.specs.Rows.{Domain, Row}
+use Rattle.pp_algebra.specs.Rows.{Row}
 use Rattle.pp_language.specs.Texts.{Text}
 use Rattle.pp_language.specs.Printing.{atom_text, term_text, integers_text, row_text}
 use Rattle.pp_language.specs.Answers.{no_text, usage_text}
+use Rattle.pp_algebra.specs.Examples.{one_or_two, two_or_three}
 
 -- adjacent integers are written as one interval, and an integer alone by itself
 abbrev pub AdjacentIntegersJoin : Type 0
@@ -31,12 +32,6 @@ abbrev pub CompoundIsWritten : Type 0
 CompoundIsWritten = term_text names (node 0 (more (node 1 none) (more (variable 3) none))) ≡ codes "f(a,_3)"
 
 -- the row _0, _1 with _0 in {1..2} and _1 in {2..3}
-abbrev pub one_or_two : Domain
-one_or_two = set.from_list (pos 1 ∷ pos 2 ∷ [])
-
-abbrev pub two_or_three : Domain
-two_or_three = set.from_list (pos 2 ∷ pos 3 ∷ [])
-
 abbrev pub two_ranges : Row
 two_ranges = record { columns = more (variable 0) (more (variable 1) none); domains = Some one_or_two ∷ Some two_or_three ∷ [] }
 

@@ -4,7 +4,8 @@ use Rattle.pp_algebra.specs.Terms.{int, node, variable, none, more}
 use Rattle.pp_algebra.specs.Rows.{Row}
 use Rattle.pp_language.specs.Generator.{number_at, program_lines, adder_line, query_lines, make_lines}
 use Rattle.pp_language.specs.Told.{change_line, summary_text, failed_summary_text}
-use Rattle.pp_language.specs.Examples.{names, one_or_two, two_ranges}
+use Rattle.pp_language.specs.Examples.{names, two_ranges}
+use Rattle.pp_algebra.specs.Examples.{one_or_two}
 
 -- each number is the one before it, multiplied and with a constant added, without its bits from 2^31 on
 abbrev pub FirstNumbers : Type 0

@@ -32,6 +32,13 @@ greatest_size = 1000000000000
 abbrev pub is_integer_text : Text → Bool
 is_integer_text bs = is_number_text bs && nat_le (value_of 0 (digits_of bs)) greatest_size
 
+-- a byte that begins a number; one that begins a variable
+abbrev pub begins_number : ℕ → Bool
+begins_number b = is_digit b || nat_eq b 45
+
+abbrev pub begins_variable : ℕ → Bool
+begins_variable b = is_upper b || is_underscore b
+
 -- a letter of the first kind, and then letters, digits and `_`
 abbrev pub is_word_from : (ℕ → Bool) → Text → Bool
 is_word_from begins [] = false

@@ -23,7 +23,7 @@ pub use limits::{
     DEFAULT_TURNS, DEFAULT_WORKERS, DEPTH_LIMIT, GOAL_LIMIT, MAKE_LIMIT, QUERY_VARIABLE_LIMIT,
     TEXT_LIMIT, TURN_LIMIT, WORKER_LIMIT,
 };
-pub use spelling::{is_digit, is_lower, is_word, number_of};
+pub use spelling::{is_digit, is_lower, is_same, is_word, number_of};
 pub use status::Status;
 pub use token::{Kind, Token};
 pub use which::Which;

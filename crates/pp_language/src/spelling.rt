@@ -1,6 +1,7 @@
-//! What tokens are spelled with: letters and digits, and the number that digits write.
+//! What tokens are spelled with: letters and digits, the number that digits write, and whether two texts are one.
 ghost use Rattle.std.specs.Prelude.{◌≡◌, ◌<◌, ◌≤◌, IsTrue, MatchOption};
 ghost use Rattle.std.specs.List.{list_all};
+ghost use Rattle.pp_algebra.specs.Texts.{same_text};
 ghost use Rattle.pp_language.specs.Texts.{is_digit, is_lower, is_word};
 ghost use Rattle.pp_language.specs.Kinds.{value_of, greatest_size};
 
@@ -41,4 +42,11 @@ pub fn number_of(digits: &[u8]) -> Option<u64>
         }
     }
     Some(value)
+}
+
+/// Whether both are one text.
+pub fn is_same(left: &[u8], right: &[u8]) -> bool
+    ensures { result ≡ same_text left.now right.now }
+{
+    left == right
 }

@@ -1,5 +1,8 @@
 //! The kinds of tokens, and where a token stands.
 
+use pp_list::Copied;
+use std::alloc::AllocError;
+
 /// A kind of token, with its spelling. The last four are the comparisons.
 #[derive(Clone, Copy, Debug, PartialEq, Eq)]
 pub enum Kind {
@@ -54,4 +57,10 @@ pub struct Token {
     pub first: u32,
     /// The place after its last byte.
     pub last: u32,
+}
+
+impl Copied for Token {
+    fn copied(&self) -> Result<Token, AllocError> {
+        Ok(*self)
+    }
 }

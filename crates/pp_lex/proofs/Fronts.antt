@@ -7,10 +7,10 @@ use Rattle.pp_language.specs.declared.token.Kind.{Kind}
 use Rattle.pp_language.specs.declared.token.Kind.TheVariants.{Atom, Quoted, Infers, Variable}
 use Rattle.pp_language.specs.Texts.{Text, is_lower, is_word}
 use Rattle.pp_algebra.specs.Texts.{same_text}
-use Rattle.pp_language.specs.Kinds.{spells, has_form}
+use Rattle.pp_language.specs.Kinds.{spells, has_form, begins_variable}
 use Rattle.pp_language.proofs.Bytes.{lower_is_word, variable_is_word}
 use Rattle.pp_language.proofs.Forms.{any_form, has_form-none, spells-any, form_of_lower, form_of_variable, form_of_quote}
-use Rattle.pp_lex.specs.Fronts.{IsFront, HasNoFront, IsLongestRest, HasNoRest, begins_variable}
+use Rattle.pp_lex.specs.Fronts.{IsFront, HasNoFront, IsLongestRest, HasNoRest}
 use Rattle.pp_lex.proofs.Runs.{prefix_len-yes, all_in_run, not_all_beyond, run-le}
 
 pub front_from : (b n : ℕ) (r : Text) (k : Kind) → spells k (b ∷ take n r) ≡ true → n ≤ length r → ((m : ℕ) → n < m → m ≤ length r → any_form (b ∷ take m r) ≡ false) → IsFront (b ∷ r) k (suc n)

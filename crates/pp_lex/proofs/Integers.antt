@@ -8,11 +8,11 @@ use Rattle.std.proofs.lemmas.Bool.{and_from, and_parts, both_ways, or_left, or_r
 use Rattle.pp_language.specs.declared.token.Kind.{Kind}
 use Rattle.pp_language.specs.declared.token.Kind.TheVariants.{Integer}
 use Rattle.pp_language.specs.Texts.{Text, is_digit}
-use Rattle.pp_language.specs.Kinds.{value_of, greatest_size, is_number_text, are_digits, digits_of, spells}
+use Rattle.pp_language.specs.Kinds.{value_of, greatest_size, is_number_text, are_digits, digits_of, spells, begins_number}
 use Rattle.pp_language.proofs.Bytes.{digit_begins}
 use Rattle.pp_language.proofs.Forms.{any_form, has_form-none, spells-any, form_of_digit, form_of_minus}
 use Rattle.pp_language.proofs.OneKind.{number_kind}
-use Rattle.pp_lex.specs.Fronts.{IsFront, HasNoFront, begins_number}
+use Rattle.pp_lex.specs.Fronts.{IsFront, HasNoFront}
 use Rattle.pp_lex.proofs.Fronts.{no_front}
 use Rattle.pp_lex.proofs.Runs.{prefix_len-yes, all_in_run, not_all_beyond, run-le}
 

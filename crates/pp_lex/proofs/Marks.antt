@@ -3,10 +3,10 @@ use Rattle.std.proofs.Common.{◌≡◌, ℕ, zero, suc, ◌<◌, ◌≤◌, tru
 use Rattle.std.proofs.lemmas.Bool.{both_ways, and_parts, or_parts, not-true}
 use Rattle.pp_language.specs.declared.token.Kind.{Kind}
 use Rattle.pp_language.specs.Texts.{Text, is_digit, is_lower}
-use Rattle.pp_language.specs.Kinds.{spells}
+use Rattle.pp_language.specs.Kinds.{spells, begins_number, begins_variable}
 use Rattle.pp_language.proofs.Bytes.{begins_mark, Begins}
 use Rattle.pp_language.proofs.Forms.{any_form, has_form-none, spells-any, form_of_other}
-use Rattle.pp_lex.specs.Fronts.{IsFront, HasNoFront, begins_number, begins_variable, begins_other}
+use Rattle.pp_lex.specs.Fronts.{IsFront, HasNoFront, begins_other}
 use Rattle.pp_lex.proofs.Fronts.{no_front}
 
 -- no token goes on behind these bytes, where the text goes on with d

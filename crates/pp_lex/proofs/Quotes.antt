@@ -1,11 +1,12 @@
 -- A run behind a quote: whether a quote is still to come, and the last place where the atom was closed.
-use Rattle.std.proofs.Common.{◌≡◌, ℕ, suc, ◌+◌, ◌-◌, ◌<◌, ◌≤◌, Bool, true, false, ◌&&◌, ◌||◌, cond, nat_eq, Option, Some, None, [], ◌∷◌, length, take, drop, get_or, refl, ap, sym, ◌∙◌, subst, ⊎_elim, arith}
+use Rattle.std.proofs.Common.{◌≡◌, ℕ, suc, ◌+◌, ◌-◌, ◌<◌, ◌≤◌, Bool, true, false, cond, nat_eq, Option, Some, None, [], ◌∷◌, length, take, drop, get_or, ap, sym, ◌∙◌, subst, ⊎_elim, arith}
 use Rattle.std.specs.Prelude.{MatchOption}
 use Rattle.std.proofs.lemmas.Bool.{cases_lt, ne_eqb, or_from, and_left}
 use Rattle.std.proofs.lemmas.List.{drop_more}
 use Rattle.pp_language.specs.Texts.{Text}
 use Rattle.pp_language.specs.Kinds.{is_plain_byte, is_quoted_rest, is_after_quote}
 use Rattle.pp_lex.specs.Fronts.{IsLongestRest, HasNoRest}
+use Rattle.pp_algebra.proofs.Bools.{left_alone}
 
 -- no rest ends from place n to place i
 abbrev pub NoneFrom : Text → ℕ → ℕ → Type 0
@@ -37,13 +38,6 @@ longest_on text i j (Some n) l f g = (omega (arith, f.0), f.1, none_on text (suc
 pub longest_at_end : (text : Text) (size : Option ℕ) → LongestTo text (length text) size → MatchOption size (HasNoRest text) (IsLongestRest text)
 longest_at_end text None f = λ m high. f m (omega arith) high
 longest_at_end text (Some n) f = record { within = f.0; spelled = f.1; longest = λ m low high. f.2 m low high }
-
-or_none : (t : Bool) → (t || false) ≡ t
-or_none true = refl
-or_none false = refl
-
-left_alone : (p q R A : Bool) → p ≡ true → q ≡ false → ((p && R) || (q && A)) ≡ R
-left_alone p q R A e f = ap (λ x. (x && R) || (q && A)) e ∙ ap (λ x. R || (x && A)) f ∙ or_none R
 
 module _ {text : Text} {is_open : Bool} {size : Option ℕ} {i : ℕ} (q : QuotedTo text is_open size i) (b : ℕ) (l : i < length text) (e : b ≡ get_or text i 0) where
   next : (m : ℕ) → is_quoted_rest (take ((i + 1) + m) text) ≡ leads_to is_open (b ∷ take m (drop (i + 1) text))

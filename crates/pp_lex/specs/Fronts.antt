@@ -1,8 +1,8 @@
 -- The token that a text begins with.
-use Rattle.std.specs.Prelude.{◌≡◌, ℕ, ◌<◌, ◌≤◌, Bool, false, not, IsTrue, ◌&&◌, ◌||◌, nat_eq, length, take}
+use Rattle.std.specs.Prelude.{◌≡◌, ℕ, ◌<◌, ◌≤◌, Bool, false, not, IsTrue, ◌&&◌, nat_eq, length, take}
 use Rattle.pp_language.specs.declared.token.Kind.{Kind}
-use Rattle.pp_language.specs.Texts.{Text, is_digit, is_lower, is_upper, is_underscore}
-use Rattle.pp_language.specs.Kinds.{is_quoted_rest, spells, has_form}
+use Rattle.pp_language.specs.Texts.{Text, is_lower}
+use Rattle.pp_language.specs.Kinds.{is_quoted_rest, spells, has_form, begins_number, begins_variable}
 
 -- the first n bytes of the text are a token of kind k
 pub record IsFront (text : Text) (k : Kind) (n : ℕ) : Type 0 where
@@ -24,12 +24,6 @@ pub record IsLongestRest (text : Text) (n : ℕ) : Type 0 where
 abbrev pub HasNoRest : Text → Type 0
 HasNoRest text = (m : ℕ) → m ≤ length text → is_quoted_rest (take m text) ≡ false
 
--- a byte that begins a number; one that begins a variable; one that begins none of these, nor an atom
-abbrev pub begins_number : ℕ → Bool
-begins_number b = is_digit b || nat_eq b 45
-
-abbrev pub begins_variable : ℕ → Bool
-begins_variable b = is_upper b || is_underscore b
-
+-- a byte that begins no number, no variable and no atom
 abbrev pub begins_other : ℕ → Bool
 begins_other b = not (begins_number b) && not (is_lower b) && not (begins_variable b) && not (nat_eq b 39)

@@ -3,7 +3,8 @@ ghost use Rattle.std.specs.Prelude.{◌≡◌, ℕ, ◌+◌, ◌<◌, ◌≤◌,
 ghost use Rattle.std.specs.List.{list_all, prefix_len};
 ghost use Rattle.pp_language.specs.Texts.{is_digit, is_lower, is_word};
 ghost use Rattle.pp_language.specs.Kinds.{value_of, greatest_size, is_plain_byte};
-ghost use Rattle.pp_lex.specs.Fronts.{IsFront, HasNoFront, IsLongestRest, HasNoRest, begins_number, begins_variable, begins_other};
+ghost use Rattle.pp_lex.specs.Fronts.{IsFront, HasNoFront, IsLongestRest, HasNoRest, begins_other};
+ghost use Rattle.pp_language.specs.Kinds.{begins_number, begins_variable};
 
 use pp_language::{Kind, is_digit, is_word, number_of};
 

@@ -1,7 +1,7 @@
 -- The join of two rows, column by column.
-use Rattle.std.proofs.Common.{◌≡◌, ℕ, suc, ℤ, List, [], ◌∷◌, ◌++◌, length, map, Option, refl, ap, sym, ◌∙◌, subst, append-nil, ◌+◌, ◌<◌, ◌≤◌, take, get_or, arith}
+use Rattle.std.proofs.Common.{◌≡◌, ℕ, ℤ, List, [], ◌∷◌, ◌++◌, length, map, Option, refl, ap, sym, ◌∙◌, subst, append-nil, ◌+◌, ◌<◌, ◌≤◌, take, get_or, arith}
 use Rattle.std.proofs.lemmas.List.{take_more, take_all, length-take-le}
-use Rattle.pp_algebra.specs.Terms.{Tree, variable, Trees, none, more, count, put, put_all, variables, variables_all, join}
+use Rattle.pp_algebra.specs.Terms.{Tree, variable, none, more, put, put_all, variables, variables_all, join}
 use Rattle.pp_algebra.specs.Rows.{Row, domain_at, pattern_of, IsCanonical}
 use Rattle.pp_algebra.specs.Canon.{has, firsts, place, canon, same_list}
 use Rattle.pp_algebra.specs.Least.{least_tree, union_of, least_row}
@@ -12,7 +12,10 @@ use Rattle.std.specs.Prelude.{nat_eq}
 use Rattle.pp_row.specs.Columns.{trees_of, sets_of, row_by, pattern_by}
 use Rattle.pp_row.proofs.Numbering.{firsts-append, place_stays}
 use Rattle.pp_lgg.specs.Pairs.{placed}
-use Rattle.pp_lgg.proofs.Common.{common, common-join, variables_all-join}
+use Rattle.pp_lgg.proofs.Common.{common-join}
+use Rattle.pp_algebra.proofs.WideLeast.{common}
+use Rattle.pp_algebra.proofs.Joined.{variables_all-join, put_all-join}
+use Rattle.pp_row.proofs.ColumnLists.{count-trees_of}
 
 trees-push : (ts : List (Tree ℕ)) (t : Tree ℕ) → trees_of (ts ++ t ∷ []) ≡ join (trees_of ts) (more t none)
 trees-push [] t = refl
@@ -22,14 +25,6 @@ trees-push (u ∷ ts) t = ap (more u) (trees-push ts t)
 pub record Joined (ts us : List (Tree ℕ)) (ns : List (List (Tree ℕ))) (out : List (Tree ℕ)) : Type 0 where
   pub names : ns ≡ firsts same_list [] (variables_all (common (trees_of ts) (trees_of us)))
   pub columns : trees_of out ≡ put_all (placed ns) (common (trees_of ts) (trees_of us))
-
-count-trees_of : (ts : List (Tree ℕ)) → count (trees_of ts) ≡ length ts
-count-trees_of [] = refl
-count-trees_of (t ∷ ts) = ap suc (count-trees_of ts)
-
-put_all-join : {V : Type 0} (s : V → Tree ℕ) (xs ys : Trees V) → put_all s (join xs ys) ≡ join (put_all s xs) (put_all s ys)
-put_all-join s none ys = refl
-put_all-join s (more x xs) ys = ap (more (put s x)) (put_all-join s xs ys)
 
 common-push : (ts us : List (Tree ℕ)) (t u : Tree ℕ) → length ts ≡ length us → common (trees_of (ts ++ t ∷ [])) (trees_of (us ++ u ∷ [])) ≡ join (common (trees_of ts) (trees_of us)) (more (least_tree t (u ∷ [])) none)
 common-push ts us t u e = rw (trees-push ts t, trees-push us u) (common-join (trees_of ts) (more t none) (trees_of us) (more u none) (count-trees_of ts ∙ e ∙ sym (count-trees_of us)))
@@ -58,14 +53,6 @@ one_column ts us out ns ms t u z l j e f =
           ∙ sym (put_all-join (placed ms) old (more l' none))
           ∙ ap (put_all (placed ms)) (sym p);
     }
-
--- rows of one width have as many columns
-pub same_length : (ts us : List (Tree ℕ)) (xs ys : Trees ℕ) → trees_of ts ≡ xs → trees_of us ≡ ys → count xs ≡ count ys → length ts ≡ length us
-same_length ts us xs ys e f g = sym (count-trees_of ts) ∙ ap count e ∙ g ∙ ap count (sym f) ∙ count-trees_of us
-
--- rows of as many columns are of one width
-pub same_width : (ts us : List (Tree ℕ)) (xs ys : Trees ℕ) → trees_of ts ≡ xs → trees_of us ≡ ys → length ts ≡ length us → count xs ≡ count ys
-same_width ts us xs ys e f g = ap count (sym e) ∙ count-trees_of ts ∙ g ∙ sym (count-trees_of us) ∙ ap count f
 
 -- the next column of both
 pub next_column : (ts us out : List (Tree ℕ)) (k : ℕ) (ns ms : List (List (Tree ℕ))) (t u z : Tree ℕ) → length ts ≡ length us → k < length ts → t ≡ get_or ts k t → u ≡ get_or us k u → Joined (take k ts) (take k us) ns out → ms ≡ firsts same_list ns (variables (least_tree t (u ∷ []))) → z ≡ put (placed ms) (least_tree t (u ∷ [])) → Joined (take (k + 1) ts) (take (k + 1) us) ms (out ++ z ∷ [])

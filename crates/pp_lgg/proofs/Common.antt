@@ -1,20 +1,18 @@
 -- The first tree of two lists: what their least generalisation has there.
-use Rattle.std.proofs.Common.{◌≡◌, ℕ, ℤ, zero, suc, true, false, Bool, List, [], ◌∷◌, ◌++◌, refl, ap, ◌∙◌, sym, arith, append_assoc}
+use Rattle.std.proofs.Common.{◌≡◌, ℕ, zero, suc, true, false, Bool, List, [], ◌∷◌, ◌++◌, refl, ap, ◌∙◌, sym, arith, append_assoc}
 use Rattle.std.specs.Prelude.{cond, ◌&&◌, nat_eq}
 use Rattle.std.specs.Ordering.{int_eq}
 use Rattle.pp_row.specs.declared.cell.Cell.{Cell}
-use Rattle.pp_row.specs.declared.cell.Cell.TheVariants.{Int, Var}
+use Rattle.pp_row.specs.declared.cell.Cell.TheVariants.{Int}
 use Rattle.pp_algebra.specs.Terms.{Tree, int, node, variable, Trees, none, more, count, put, put_all, variables, variables_all, join}
 use Rattle.pp_algebra.specs.Least.{rest, arguments, least_tree, least_trees}
 use Rattle.pp_algebra.proofs.Put.{count-put_all}
 use Rattle.pp_algebra.proofs.Bools.{int_same, int_is, nat_same, nat_is}
 use Rattle.pp_row.specs.Cells.{head_of, cells_of, cells_of_all}
-use Rattle.pp_row.proofs.Next.{cell_of}
+use Rattle.pp_row.proofs.Next.{cell_of, same_head, int_head, var_head}
 use Rattle.pp_lgg.specs.Pairs.{IsFixed}
-
--- of two lists
-abbrev pub common : Trees ℕ → Trees ℕ → Trees (List (Tree ℕ))
-common ts us = least_trees ts (us ∷ [])
+use Rattle.pp_algebra.proofs.WideLeast.{common}
+use Rattle.pp_algebra.proofs.Joined.{variables_all-join}
 
 count-common : (ts us : Trees ℕ) → count (common ts us) ≡ count ts
 count-common none us = refl
@@ -27,10 +25,6 @@ common-join (more x xs) ts none us e = absurd (omega arith)
 common-join (more x xs) ts (more y ys) us e = ap (more (least_tree x (y ∷ []))) (common-join xs ts ys us (omega arith))
 
 module _ {V : Type 0} where
-  pub variables_all-join : (xs ys : Trees V) → variables_all (join xs ys) ≡ variables_all xs ++ variables_all ys
-  variables_all-join none ys = refl
-  variables_all-join (more x xs) ys = ap (λ vs. variables x ++ vs) (variables_all-join xs ys) ∙ sym (append_assoc (variables x) (variables_all xs) (variables_all ys))
-
   cells-join : (s : V → Tree ℕ) (xs ys : Trees V) → cells_of_all (put_all s (join xs ys)) ≡ cells_of_all (put_all s xs) ++ cells_of_all (put_all s ys)
   cells-join s none ys = refl
   cells-join s (more x xs) ys = ap (λ cs. cells_of (put s x) ++ cs) (cells-join s xs ys) ∙ sym (append_assoc (cells_of (put s x)) (cells_of_all (put_all s xs)) (cells_of_all (put_all s ys)))
@@ -38,20 +32,6 @@ module _ {V : Type 0} where
 fixed_head : (f k : ℕ) → IsFixed (head_of f k)
 fixed_head f zero = tt
 fixed_head f (suc k) = tt
-
-same_head : (f g k n : ℕ) → head_of f k ≡ head_of g n → (f ≡ g) × (k ≡ n)
-same_head f g zero zero e = (cc, refl)
-same_head f g zero (suc n) e = absurd (cc)
-same_head f g (suc k) zero e = absurd (cc)
-same_head f g (suc k) (suc n) e = (cc, cc)
-
-int_head : (n : ℤ) (g k : ℕ) → Int n ≡ head_of g k → ⊥
-int_head n g zero e = cc
-int_head n g (suc k) e = cc
-
-var_head : (v g k : ℕ) → Var v ≡ head_of g k → ⊥
-var_head v g zero e = cc
-var_head v g (suc k) e = cc
 
 -- the cell stands in front, and the arguments follow
 pub record Agrees (c : Cell) (whole ahead : Trees (List (Tree ℕ))) : Type 0 where

@@ -1,22 +1,20 @@
 -- The steps of the walk over the cells of two terms.
-use Rattle.std.proofs.Common.{◌≡◌, ℕ, suc, ◌+◌, ◌-◌, ◌<◌, ◌≤◌, List, [], ◌∷◌, ◌++◌, length, take, drop, get_or, Some, None, Option, All, refl, ap, ◌∙◌, sym, arith, subst, append-nil}
+use Rattle.std.proofs.Common.{◌≡◌, ℕ, ◌+◌, ◌-◌, ◌<◌, ◌≤◌, List, [], ◌∷◌, ◌++◌, length, get_or, Some, None, Option, All, refl, ap, ◌∙◌, sym, arith, subst}
 use Rattle.std.specs.Prelude.{MatchOption, IsSome}
-use Rattle.std.proofs.lemmas.List.Elements.{All-drop, All-take}
 use Rattle.pp_row.specs.declared.cell.Cell.{Cell}
 use Rattle.pp_row.specs.declared.cell.Cell.TheVariants.{Var}
-use Rattle.pp_algebra.specs.Terms.{Tree, variable, Trees, none, more, count, put, variables}
+use Rattle.pp_algebra.specs.Terms.{Tree, variable, Trees, none, more, put, variables}
 use Rattle.pp_algebra.specs.Canon.{firsts, place, same_list}
-use Rattle.pp_algebra.specs.Least.{first, rest, arguments, least_tree}
-use Rattle.pp_row.specs.Cells.{cells_of, arity_of, IsTerm, IsLegalCell}
-use Rattle.pp_row.specs.Codes.{stack-cells_of, tree_of-cells_of}
-use Rattle.pp_row.specs.Reading.{stack, all_of, tree_of, IsForest, IsOneTerm, from}
+use Rattle.pp_algebra.specs.Least.{first, rest, least_tree}
+use Rattle.pp_row.specs.Cells.{cells_of, IsTerm, IsLegalCell}
+use Rattle.pp_row.specs.Reading.{IsForest, from}
 use Rattle.pp_row.proofs.Next.{IsNext, next, count_from}
-use Rattle.pp_algebra.proofs.Joined.{count-join}
 use Rattle.pp_row.proofs.Piece.{same_cells}
 use Rattle.pp_row.proofs.InStep.{from_start, no_more}
 use Rattle.pp_lgg.specs.Pairs.{IsFixed, placed}
-use Rattle.pp_lgg.proofs.Common.{common, Agrees, agrees, apart}
+use Rattle.pp_lgg.proofs.Common.{Agrees, agrees, apart}
 use Rattle.pp_lgg.proofs.Walked.{Walked, starts, step_agree, step_apart, ends}
+use Rattle.pp_algebra.proofs.WideLeast.{common}
 
 agree_next : (c d : Cell) (ts us rs qs : Trees ℕ) → IsNext c ts rs → IsNext d us qs → c ≡ d → IsFixed c → Agrees c (common ts us) (common rs qs)
 agree_next c d none us rs qs n m e f = let a = n.some in absurd (cc)

@@ -1,5 +1,5 @@
 -- The table of pairs, as a list of names.
-use Rattle.std.proofs.Common.{◌≡◌, ℕ, true, false, Bool, List, [], ◌∷◌, ◌++◌, All, refl, ap, sym, ◌∙◌}
+use Rattle.std.proofs.Common.{◌≡◌, ℕ, true, Bool, List, [], ◌∷◌, ◌++◌, All, refl, ap, sym, ◌∙◌}
 use Rattle.std.specs.Prelude.{cond, ◌&&◌}
 use Rattle.std.specs.Bool.{Decides}
 use Rattle.std.specs.Cmp.Lexicographic.{pointwise}
@@ -9,14 +9,15 @@ use Rattle.std.proofs.lemmas.Slice.Eq.{slice_eq-Decides}
 use Rattle.pp_algebra.specs.Canon.{firsts, place, same_list}
 use Rattle.pp_algebra.proofs.Bools.{left_true, right_true, both_true}
 use Rattle.pp_algebra.proofs.CanonLemmas.{same_list-IsSame}
-use Rattle.pp_row.specs.Cells.{cells_of}
-use Rattle.pp_row.specs.Reading.{tree_of, IsOneTerm}
+use Rattle.pp_row.specs.Reading.{tree_of}
 use Rattle.pp_row.specs.declared.cell.Cell.{Cell}
 use Rattle.pp_row.specs.contracts.cell.CellPartialEq.TheImpl.{eq-value}
 use Rattle.pp_row.proofs.Decide.{cell_decides}
 use Rattle.pp_row.proofs.Keys.{taken, place_now, position_place}
 use Rattle.pp_lgg.specs.declared.pair.Pair.{Pair}
 use Rattle.pp_lgg.specs.Pairs.{IsPair, name, names}
+use Rattle.pp_row.proofs.OneTerm.{same_terms}
+use Rattle.pp_algebra.proofs.Antisym.{same_bool}
 
 abbrev same_cells : List Cell → List Cell → Bool
 same_cells = pointwise eq-value.it
@@ -27,9 +28,6 @@ same_pair p q = same_cells p.left.now q.left.now && same_cells p.right.now q.rig
 
 cells_decide : (cs ds : List Cell) → Decides (same_cells cs ds) (cs ≡ ds)
 cells_decide cs ds = slice_eq-Decides cell_decides cs ds (same_cells cs ds) refl
-
-same_terms : (cs ds : List Cell) → IsOneTerm cs → IsOneTerm ds → tree_of cs ≡ tree_of ds → cs ≡ ds
-same_terms cs ds h k e = sym h.whole ∙ ap (λ t. cells_of t) e ∙ k.whole
 
 one_name : (p q : Pair) → same_pair p q ≡ true → name p ≡ name q
 one_name p q h =
@@ -42,11 +40,6 @@ one_pair p q h k e =
     let a : tree_of p.left.now ≡ tree_of q.left.now = cc in
     let b : tree_of p.right.now ≡ tree_of q.right.now = cc in
     both_true _ _ ((cells_decide p.left.now q.left.now).1 (same_terms p.left.now q.left.now h.left k.left a)) ((cells_decide p.right.now q.right.now).1 (same_terms p.right.now q.right.now h.right k.right b))
-
-same_bool : (a b : Bool) → (a ≡ true → b ≡ true) → (b ≡ true → a ≡ true) → a ≡ b
-same_bool true b h k = sym (h refl)
-same_bool false true h k = k refl
-same_bool false false h k = refl
 
 -- pairs of terms are told apart by their names
 pub by_name : (p q : Pair) → IsPair p → IsPair q → same_pair p q ≡ same_list (name p) (name q)

@@ -5,9 +5,9 @@ use Rattle.pp_row.specs.declared.cell.Cell.{Cell}
 use Rattle.pp_row.specs.declared.cell.Cell.TheVariants.{Var}
 use Rattle.pp_algebra.specs.Terms.{Tree, variable, Trees, none, more, put, put_all, variables, variables_all}
 use Rattle.pp_algebra.specs.Canon.{has, firsts, place, same_list}
-use Rattle.pp_algebra.proofs.CanonLemmas.{same_list-IsSame, has-all}
+use Rattle.pp_algebra.proofs.CanonLemmas.{same_list-IsSame, has-all, place-front}
 use Rattle.pp_row.specs.Cells.{cells_of, cells_of_all}
-use Rattle.pp_row.proofs.Numbering.{firsts-append, place-front}
+use Rattle.pp_row.proofs.Numbering.{firsts-append}
 use Rattle.pp_lgg.specs.Pairs.{placed}
 use Rattle.pp_lgg.proofs.Common.{Agrees}
 

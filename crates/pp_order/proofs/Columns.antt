@@ -1,27 +1,15 @@
 -- Whether one row covers another, column by column.
-use Rattle.std.proofs.Common.{◌≡◌, ℕ, ℤ, zero, suc, ◌+◌, ◌<◌, ◌≤◌, ◌⊎◌, inl, inr, pos, List, [], ◌∷◌, ◌++◌, length, map, drop, get_or, Option, refl, ap, ◌∙◌, sym, arith, subst, drop-cons, add-one}
+use Rattle.std.proofs.Common.{◌≡◌, ℕ, ℤ, suc, ◌+◌, ◌<◌, ◌≤◌, inl, inr, List, [], ◌∷◌, ◌++◌, length, drop, get_or, Option, refl, ap, ◌∙◌, sym, arith, subst, drop-cons, add-one}
 use Rattle.std.specs.Prelude.{◌↔◌}
 use Rattle.std.proofs.Math.ListN.{drop_of_length-le}
-use Rattle.pp_algebra.specs.Terms.{Tree, int, Trees, none, more, count, put, put_all, variables, variables_all}
-use Rattle.pp_algebra.specs.Rows.{Domain, Domains, Row, IsNumbered, domain_at, pattern_of}
-use Rattle.pp_algebra.specs.Covers.{IsIn, MayGo, Covers, RowCovers}
+use Rattle.pp_algebra.specs.Terms.{Tree, Trees, none, more, put, variables, variables_all}
+use Rattle.pp_algebra.specs.Rows.{Domains, Row, IsNumbered, domain_at}
+use Rattle.pp_algebra.specs.Covers.{RowCovers}
 use Rattle.pp_algebra.proofs.Order.{IsIn-left, IsIn-right}
 use Rattle.pp_algebra.proofs.Antisym.{IsIn-either}
 use Rattle.pp_row.specs.Columns.{trees_of, sets_of}
-use Rattle.pp_order.specs.Bindings.{term_of, Follows, Takes}
+use Rattle.pp_order.specs.Bindings.{Follows, Takes}
 use Rattle.pp_order.proofs.Walking.{Walked}
-
-count-trees_of : (ts : List (Tree ℕ)) → count (trees_of ts) ≡ length ts
-count-trees_of [] = refl
-count-trees_of (t ∷ ts) = ap suc (count-trees_of ts)
-
--- rows of one width have as many columns
-pub same_length : (ts us : List (Tree ℕ)) (xs ys : Trees ℕ) → trees_of ts ≡ xs → trees_of us ≡ ys → count xs ≡ count ys → length ts ≡ length us
-same_length ts us xs ys e f g = sym (count-trees_of ts) ∙ ap count e ∙ g ∙ ap count (sym f) ∙ count-trees_of us
-
--- rows of as many columns are of one width
-pub same_width : (ts us : List (Tree ℕ)) (xs ys : Trees ℕ) → trees_of ts ≡ xs → trees_of us ≡ ys → length ts ≡ length us → count xs ≡ count ys
-same_width ts us xs ys e f g = ap count (sym e) ∙ count-trees_of ts ∙ g ∙ sym (count-trees_of us) ∙ ap count f
 
 -- numbers of two lists, one after the other
 numbered_parts : (vs ws : List ℕ) (n m : ℕ) → IsNumbered n (vs ++ ws) m → (p : ℕ) × IsNumbered n vs p × IsNumbered p ws m

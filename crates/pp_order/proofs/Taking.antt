@@ -1,29 +1,20 @@
 -- What a substitution takes to what, cell by cell.
-use Rattle.std.proofs.Common.{◌≡◌, ℕ, ℤ, zero, suc, List, [], ◌∷◌, ◌++◌, refl, ap, ◌∙◌, sym, arith, append_assoc, inl, inr, subst, ◌+◌, ◌<◌, length, get_or, Bool, true, false}
+use Rattle.std.proofs.Common.{◌≡◌, ℕ, List, refl, ap, ◌∙◌, sym, arith, subst, ◌+◌, ◌<◌, length, get_or, Bool, true, false}
 use Rattle.std.specs.Prelude.{not}
 use Rattle.pp_row.specs.declared.cell.Cell.{Cell}
-use Rattle.pp_row.specs.declared.cell.Cell.TheVariants.{Int, Atom, Compound, Var}
-use Rattle.pp_algebra.specs.Terms.{Tree, int, node, variable, Trees, none, more, count, put, put_all, variables, variables_all, join}
+use Rattle.pp_row.specs.declared.cell.Cell.TheVariants.{Var}
+use Rattle.pp_algebra.specs.Terms.{Tree, int, node, variable, Trees, none, more, count, put, put_all, variables_all, join}
 use Rattle.pp_algebra.specs.Rows.{Domains}
-use Rattle.pp_algebra.specs.Covers.{IsIn, MayGo}
+use Rattle.pp_algebra.specs.Covers.{IsIn}
 use Rattle.pp_algebra.specs.Least.{first, rest, arguments}
 use Rattle.pp_algebra.proofs.Put.{count-put_all}
-use Rattle.pp_algebra.proofs.Order.{IsIn-left, IsIn-right}
-use Rattle.pp_algebra.proofs.Antisym.{IsIn-either}
 use Rattle.pp_row.specs.contracts.cell.CellPartialEq.TheImpl.{eq-value}
 use Rattle.pp_row.proofs.Decide.{cell_decides}
 use Rattle.pp_row.specs.Cells.{head_of}
 use Rattle.pp_row.specs.Reading.{from, IsForest}
-use Rattle.pp_row.proofs.Next.{cell_of, IsNext, next}
+use Rattle.pp_row.proofs.Next.{cell_of, IsNext, next, same_head, int_head, var_head, var_term}
 use Rattle.pp_order.specs.Bindings.{Takes}
-
-variables_all-join : (xs ys : Trees ℕ) → variables_all (join xs ys) ≡ variables_all xs ++ variables_all ys
-variables_all-join none ys = refl
-variables_all-join (more x xs) ys = ap (λ vs. variables x ++ vs) (variables_all-join xs ys) ∙ sym (append_assoc (variables x) (variables_all xs) (variables_all ys))
-
-put_all-join : (s : ℕ → Tree ℕ) (xs ys : Trees ℕ) → put_all s (join xs ys) ≡ join (put_all s xs) (put_all s ys)
-put_all-join s none ys = refl
-put_all-join s (more x xs) ys = ap (more (put s x)) (put_all-join s xs ys)
+use Rattle.pp_algebra.proofs.Joined.{variables_all-join, put_all-join}
 
 -- lists of one length that are joined are told apart
 unjoin : (xs ys ts us : Trees ℕ) → count xs ≡ count ys → join xs ts ≡ join ys us → (xs ≡ ys) × (ts ≡ us)
@@ -35,28 +26,9 @@ unjoin (more x xs) (more y ys) ts us e f =
     let a : x ≡ y = cc in
     (rw (a, r.0) refl, r.1)
 
-same_head : (f g k n : ℕ) → head_of f k ≡ head_of g n → (f ≡ g) × (k ≡ n)
-same_head f g zero zero e = (cc, refl)
-same_head f g zero (suc n) e = absurd (cc)
-same_head f g (suc k) zero e = absurd (cc)
-same_head f g (suc k) (suc n) e = (cc, cc)
-
-int_head : (n : ℤ) (g k : ℕ) → Int n ≡ head_of g k → ⊥
-int_head n g zero e = cc
-int_head n g (suc k) e = cc
-
-var_head : (v g k : ℕ) → Var v ≡ head_of g k → ⊥
-var_head v g zero e = cc
-var_head v g (suc k) e = cc
-
 -- the cell is no variable
 abbrev pub IsFixed : Cell → Type 0
 IsFixed c = (v : ℕ) → c ≡ Var v → ⊥
-
-pub var_is : (t : Tree ℕ) (v : ℕ) → cell_of t ≡ Var v → t ≡ variable v
-var_is (int n) v e = absurd (cc)
-var_is (node g xs) v e = absurd (var_head v g (count xs) (sym e))
-var_is (variable w) v e = ap variable (cc)
 
 variables_cell : (t : Tree ℕ) (ts : Trees ℕ) → IsFixed (cell_of t) → variables_all (more t ts) ≡ variables_all (join (arguments t) ts)
 variables_cell (int n) ts f = refl
@@ -69,7 +41,7 @@ variables_next c ts rs n f = ap variables_all n.some ∙ variables_cell (first t
 -- a variable stands in front
 pub variable_next : (v : ℕ) (ts rs : Trees ℕ) → IsNext (Var v) ts rs → ts ≡ more (variable v) rs
 variable_next v ts rs n =
-    let a : first ts ≡ variable v = var_is (first ts) v n.cell in
+    let a : first ts ≡ variable v = var_term (first ts) v n.cell in
     n.some ∙ ap (λ t. more t (rest ts)) a ∙ ap (more (variable v)) (sym (n.inner ∙ ap (λ t. join (arguments t) (rest ts)) a))
 
 -- cells that `!=` does not tell apart

@@ -1,5 +1,5 @@
 -- How far the walk of two terms has come, and the terms that are bound.
-use Rattle.std.proofs.Common.{◌≡◌, ℕ, suc, ◌+◌, ◌<◌, ◌≤◌, ◌⊎◌, inl, inr, true, Bool, pos, List, [], ◌∷◌, ◌++◌, length, map, get_or, All, refl, ap, ◌∙◌, sym, arith, subst, append-nil, length-append}
+use Rattle.std.proofs.Common.{◌≡◌, ℕ, ◌+◌, ◌<◌, ◌≤◌, inl, inr, true, Bool, pos, List, [], ◌∷◌, ◌++◌, length, get_or, All, refl, ap, ◌∙◌, sym, arith, subst, append-nil, length-append}
 use Rattle.std.specs.Prelude.{◌↔◌}
 use Rattle.std.specs.Borrow.{Bor}
 use Rattle.std.specs.Cmp.Lexicographic.{pointwise}
@@ -8,26 +8,21 @@ use Rattle.std.proofs.lemmas.Bool.{cases_lt}
 use Rattle.std.proofs.lemmas.List.Elements.{All-get_or, All-push}
 use Rattle.std.proofs.lemmas.Slice.Eq.{slice_eq-Decides}
 use Rattle.std.proofs.Math.ListN.{length-map}
-use Rattle.pp_algebra.specs.Terms.{Tree, int, variable, Trees, none, more, put, put_all, variables, variables_all}
+use Rattle.pp_algebra.specs.Terms.{Tree, int, variable, Trees, none, more, variables, variables_all}
 use Rattle.pp_algebra.specs.Rows.{Domains, IsNumbered}
-use Rattle.pp_algebra.specs.Covers.{IsIn, MayGo}
-use Rattle.pp_algebra.specs.Least.{first, rest}
+use Rattle.pp_algebra.specs.Covers.{MayGo}
 use Rattle.pp_row.specs.declared.cell.Cell.{Cell}
-use Rattle.pp_row.specs.declared.cell.Cell.TheVariants.{Var}
 use Rattle.pp_row.specs.contracts.cell.CellPartialEq.TheImpl.{eq-value}
-use Rattle.pp_row.specs.Cells.{cells_of}
 use Rattle.pp_row.specs.Reading.{tree_of, IsOneTerm}
 use Rattle.pp_row.proofs.Decide.{cell_decides}
-use Rattle.pp_row.proofs.Next.{cell_of, IsNext}
+use Rattle.pp_row.proofs.Next.{IsNext}
 use Rattle.pp_order.specs.Bindings.{terms, term_of, Follows, Takes, AreBound}
 use Rattle.pp_order.proofs.Taking.{IsFixed, past_cell, before_cell, no_cell, variables_next}
+use Rattle.pp_row.proofs.OneTerm.{same_terms}
 
 -- the term of a bound variable
 pub term_at : (bs : List (Bor (List Cell))) (k : ℕ) (d : Bor (List Cell)) → k < length bs → term_of (terms bs) k ≡ tree_of (get_or bs k d).now
 term_at bs k d l = get_or-map (λ (b : Bor (List Cell)). tree_of b.now) bs k d (int (pos 0)) l
-
-one_term : (cs ds : List Cell) → IsOneTerm cs → IsOneTerm ds → tree_of cs ≡ tree_of ds → cs ≡ ds
-one_term cs ds h k e = sym h.whole ∙ ap (λ t. cells_of t) e ∙ k.whole
 
 -- the comparison with a bound term
 pub same_span : (bs xs : List (Bor (List Cell))) (k : ℕ) (d : Bor (List Cell)) (cs : List Cell) (b : Bool) → All (λ x. IsOneTerm x.now) bs → k < length bs → IsOneTerm cs → xs ≡ bs → b ≡ pointwise eq-value.it (get_or xs k d).now cs → (b ≡ true) ↔ (tree_of cs ≡ term_of (terms bs) k)
@@ -35,7 +30,7 @@ same_span bs xs k d cs b a l h e f =
     let dec = slice_eq-Decides cell_decides (get_or bs k d).now cs b (f ∙ ap (λ (ys : List (Bor (List Cell))). pointwise eq-value.it (get_or ys k d).now cs) e) in
     let w = All-get_or (λ (x : Bor (List Cell)). IsOneTerm x.now) bs k d l a in (
       λ g. ap (λ ys. tree_of ys) (sym (dec.0 g)) ∙ sym (term_at bs k d l),
-      λ g. dec.1 (one_term (get_or bs k d).now cs w h (sym (term_at bs k d l) ∙ sym g)),
+      λ g. dec.1 (same_terms (get_or bs k d).now cs w h (sym (term_at bs k d l) ∙ sym g)),
     )
 
 -- one more

@@ -1,5 +1,5 @@
 -- The terms that the variables of the general row stand for, and the substitutions that give them these terms.
-use Rattle.std.specs.Prelude.{◌≡◌, ℕ, ℤ, pos, ◌<◌, List, map, length, slice_index_or, All}
+use Rattle.std.specs.Prelude.{◌≡◌, ℕ, pos, ◌<◌, List, map, length, slice_index_or, All}
 use Rattle.std.specs.Borrow.{Bor}
 use Rattle.pp_algebra.specs.Terms.{Tree, int, Trees, put_all, variables_all}
 use Rattle.pp_algebra.specs.Rows.{Domains}

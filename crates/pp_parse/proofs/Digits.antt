@@ -1,12 +1,8 @@
 -- The number that digits write, digit by digit.
-use Rattle.std.proofs.Common.{◌≡◌, ℕ, suc, ◌+◌, ◌-◌, ◌*◌, ◌<◌, ◌≤◌, [], ◌∷◌, length, drop, get_or, ap, sym, ◌∙◌, arith}
+use Rattle.std.proofs.Common.{◌≡◌, ℕ, suc, ◌+◌, ◌-◌, ◌*◌, ◌<◌, length, drop, get_or, ap, sym, ◌∙◌, arith}
 use Rattle.std.proofs.Math.Seq.{drop-cons}
 use Rattle.pp_language.specs.Texts.{Text}
 use Rattle.pp_language.specs.Kinds.{value_of}
-
-pub value_grows : (n : ℕ) (bs : Text) → n ≤ value_of n bs
-value_grows n [] = omega arith
-value_grows n (b ∷ bs) = omega (arith, value_grows (10 * n + (b - 48)) bs)
 
 pub value_on : (bs : Text) (i n b : ℕ) → i < length bs → b ≡ get_or bs i 0 → value_of n (drop i bs) ≡ value_of (10 * n + (b - 48)) (drop (i + 1) bs)
 value_on bs i n b l e =

@@ -11,18 +11,18 @@ use Rattle.pp_language.specs.Kinds.{spells}
 use Rattle.pp_language.specs.Tokens.{IsTokenOf}
 use Rattle.pp_language.specs.Words.{Word, word, word_of, is_atom_kind}
 use Rattle.pp_language.specs.Statements.{directive, Says}
-use Rattle.pp_language.proofs.Forms.{same_text-true}
 use Rattle.pp_parse.specs.Words.{words_of}
+use Rattle.pp_algebra.proofs.SameText.{same_text-is}
 
 -- a token of a kind with one text is that word
 fixed_word : (text : Text) (t : Token) (k : Kind) (bs : Text) → IsTokenOf text t → t.kind ≡ k → ((cs : Text) → spells k cs ≡ same_text cs bs) → word_of text t ≡ word k bs
 fixed_word text t k bs h e f =
     let cs = part text t.first t.last in
     let s : same_text cs bs ≡ true = sym (f cs) ∙ ap (λ x. spells x cs) (sym e) ∙ h.spelled in
-    ap (λ x. word x cs) e ∙ ap (word k) (same_text-true cs bs s)
+    ap (λ x. word x cs) e ∙ ap (word k) (same_text-is cs bs s)
 
 atom_word : (text : Text) (t : Token) → t.kind ≡ Atom → same_text (part text t.first t.last) (codes "lib") ≡ true → word_of text t ≡ word Atom (codes "lib")
-atom_word text t e h = ap (λ x. word x (part text t.first t.last)) e ∙ ap (word Atom) (same_text-true (part text t.first t.last) (codes "lib") h)
+atom_word text t e h = ap (λ x. word x (part text t.first t.last)) e ∙ ap (word Atom) (same_text-is (part text t.first t.last) (codes "lib") h)
 
 module _ (text : Text) (d : Token) where
   says_directive : (ts : List Token) → 5 ≤ length ts → length ts < 6 → All (IsTokenOf text) ts → (get_or ts 0 d).kind ≡ Neck → (get_or ts 1 d).kind ≡ Atom → (get_or ts 2 d).kind ≡ Left → (get_or ts 3 d).kind ≡ Atom → (get_or ts 4 d).kind ≡ Right

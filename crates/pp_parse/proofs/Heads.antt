@@ -10,7 +10,7 @@ use Rattle.pp_language.specs.Texts.{Text}
 use Rattle.pp_algebra.specs.Texts.{same_text}
 use Rattle.pp_language.specs.Words.{is_built_in, atom_of}
 use Rattle.pp_language.specs.Phrases as phrases
-use Rattle.pp_language.specs.Phrases.{integer_phrase, variable_phrase, said, no_phrases, phrase_and, count, term_part, mark}
+use Rattle.pp_language.specs.Phrases.{integer_phrase, variable_phrase, said, count, term_part, mark}
 use Rattle.pp_parse.specs.declared.parts.Part.{Part}
 use Rattle.pp_parse.specs.declared.parts.Part.TheVariants.{Term, Mark}
 use Rattle.pp_parse.specs.declared.parts.Phrase.{Phrase}

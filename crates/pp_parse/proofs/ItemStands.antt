@@ -13,8 +13,8 @@ use Rattle.pp_language.specs.Phrases.{Phrase, integer_phrase, variable_phrase, s
 use Rattle.pp_language.specs.PartsOf.{are_parts}
 use Rattle.pp_language.specs.Statements.{SetPhrase, Item, equates, belongs, compares, set_parts, mode_text, item_parts, is_comparison, is_item}
 use Rattle.pp_language.specs.Fronts.{Front, front_as, set_in, term_in, mode_named, plain_text, mode_by, mode_in, infer_by, infer_in, call_in, item_in}
-use Rattle.pp_language.proofs.Forms.{same_text-true}
 use Rattle.pp_parse.proofs.Fronts.{Stands, set_stands}
+use Rattle.pp_algebra.proofs.SameText.{same_text-is}
 
 -- the parts are what is read and the parts behind it, and it is an item where the parts are well formed
 pub record IsItemOf (ps : List Part) (x : Item) (rest : List Part) : Type 0 where
@@ -55,7 +55,7 @@ comparison_stands k p (term_part q ∷ ps) h g = record {
 
 -- the text is that of the mode that it names
 mode_is : (bs : Text) (m : Mode) → mode_named bs ≡ Some m → bs ≡ mode_text m
-mode_is bs m = go (same_text bs (mode_text most)) (same_text bs (mode_text unique)) (same_text bs (mode_text consistent)) (same_text-true bs (mode_text most)) (same_text-true bs (mode_text unique)) (same_text-true bs (mode_text consistent))
+mode_is bs m = go (same_text bs (mode_text most)) (same_text bs (mode_text unique)) (same_text bs (mode_text consistent)) (same_text-is bs (mode_text most)) (same_text-is bs (mode_text unique)) (same_text-is bs (mode_text consistent))
   where
     go : (a b c : Bool) → (a ≡ true → bs ≡ mode_text most) → (b ≡ true → bs ≡ mode_text unique) → (c ≡ true → bs ≡ mode_text consistent)
         → cond a (Some most) (cond b (Some unique) (cond c (Some consistent) None)) ≡ Some m → bs ≡ mode_text m

@@ -5,7 +5,6 @@ use Rattle.std.proofs.lemmas.List.Elements.{All-nil, All-cons, All-head, All-tai
 use Rattle.pp_algebra.specs.Covers.{IsIn}
 use Rattle.pp_algebra.specs.Canon.{has, firsts}
 use Rattle.pp_algebra.proofs.CanonLemmas.{has-all}
-use Rattle.pp_row.proofs.Keys.{same_text-IsSame}
 use Rattle.pp_language.specs.declared.token.Kind.{Kind}
 use Rattle.pp_language.specs.declared.token.Kind.TheVariants.{Variable}
 use Rattle.pp_language.specs.Texts.{Text}
@@ -13,6 +12,7 @@ use Rattle.pp_algebra.specs.Texts.{same_text}
 use Rattle.pp_language.specs.Words.{Word}
 use Rattle.pp_language.specs.Meanings.{texts_by}
 use Rattle.pp_parse.specs.Words.{texts_in, named_by, named_in, blanks_by, blanks_in}
+use Rattle.pp_algebra.proofs.SameText.{same_text-IsSame}
 
 abbrev pub Known : List Text → Text → Type 0
 Known xs x = IsTrue (has same_text xs x)

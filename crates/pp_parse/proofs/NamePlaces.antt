@@ -6,12 +6,12 @@ use Rattle.pp_algebra.specs.Canon.{has, place}
 use Rattle.pp_language.specs.Texts.{Text}
 use Rattle.pp_algebra.specs.Texts.{same_text}
 use Rattle.pp_language.specs.Printing.{name_at}
-use Rattle.pp_language.proofs.Forms.{same_text-true}
+use Rattle.pp_algebra.proofs.SameText.{same_text-is}
 
 pub name-place : (names : List Text) (x : Text) → has same_text names x ≡ true → name_at names (place same_text names x) ≡ x
 name-place [] x h = absurd (cc)
 name-place (y ∷ names) x h = elim (same_text y x) as (λ b. same_text y x ≡ b → (b || has same_text names x) ≡ true → get_or (y ∷ names) (cond b 0 (suc (place same_text names x))) [] ≡ x) [
-  | true ↦ λ e k. same_text-true y x e
+  | true ↦ λ e k. same_text-is y x e
   | false ↦ λ e k. name-place names x k
 ] refl h
 

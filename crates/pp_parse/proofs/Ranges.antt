@@ -12,7 +12,7 @@ use Rattle.pp_algebra.specs.Covers.{IsIn}
 use Rattle.pp_algebra.specs.Rows.{Domain}
 use Rattle.pp_algebra.specs.Members.{all_integers, IsInteger, integers_from}
 use Rattle.pp_algebra.proofs.Bools.{int_same, int_is}
-use Rattle.pp_algebra.proofs.MembersListed.{members-contained}
+use Rattle.pp_algebra.proofs.MembersListed.{in_all}
 use Rattle.pp_domain.specs.Intervals.{IsDomain, natural, count, integers}
 use Rattle.pp_domain.specs.Sets.{set_of}
 use Rattle.pp_domain.proofs.Canonical.{set_is, empty_is}
@@ -23,6 +23,7 @@ use Rattle.pp_term.specs.Meanings.{members_by}
 use Rattle.pp_parse.proofs.Bounds.{integer_is}
 use Rattle.pp_parse.specs.declared.sets.Ends.{Ends}
 use Rattle.pp_parse.specs.Sets.{AreEnds, united}
+use Rattle.std.proofs.Math.Bool.{or-false, or_assoc, or_comm}
 
 -- ===== which integers lie between two
 
@@ -57,12 +58,6 @@ kept p v (n ∷ ns) i = go (p n) (kept p v ns) i
     go true later (inl e) = inl e
     go true later (inr j) = inr (later j)
     go false later j = inr (later j)
-
-in_all : (v : ℤ) → IsInteger v → IsIn v all_integers
-in_all v h =
-    let d : Domain = set.from_list (v ∷ []) in
-    let c : set.contains d v ≡ true = set.contains-from_list int_cmp_total (v ∷ []) v ∙ ap (λ b. b || false) (int_same v) in
-    kept (set.contains d) v all_integers ((members-contained d v).1 (h, c))
 
 lie_between : (low high v : ℤ) → IsInteger low → IsInteger high → Decides (set.contains (integers_between low high) v) ((low ≤ℤ v) × (v ≤ℤ high))
 lie_between low high v l h = (there, back)
@@ -131,34 +126,20 @@ bounds_members b e r a m = range_found e.low e.high r a.low a.high m ∙ sym a.s
 empty_left : (s : Domain) → set.union set.empty s ≡ s
 empty_left s = set.same_set int_cmp_total set.int_cmp-IsAntisymmetric _ _ (λ v. set.contains-union int_cmp_total set.empty s v ∙ ap (λ b. b || set.contains s v) (set.contains-empty int_cmp v))
 
-or-false : (a : Bool) → (a || false) ≡ a
-or-false true = refl
-or-false false = refl
-
 empty_right : (s : Domain) → set.union s set.empty ≡ s
 empty_right s = set.same_set int_cmp_total set.int_cmp-IsAntisymmetric _ _ (λ v. set.contains-union int_cmp_total s set.empty v ∙ ap (λ b. set.contains s v || b) (set.contains-empty int_cmp v) ∙ or-false (set.contains s v))
-
-or_grouped : (a b c : Bool) → ((a || b) || c) ≡ (a || (b || c))
-or_grouped true b c = refl
-or_grouped false b c = refl
 
 union_grouped : (s t u : Domain) → set.union (set.union s t) u ≡ set.union s (set.union t u)
 union_grouped s t u = set.same_set int_cmp_total set.int_cmp-IsAntisymmetric _ _ (λ v.
     set.contains-union int_cmp_total (set.union s t) u v
     ∙ ap (λ b. b || set.contains u v) (set.contains-union int_cmp_total s t v)
-    ∙ or_grouped (set.contains s v) (set.contains t v) (set.contains u v)
+    ∙ or_assoc (set.contains s v) (set.contains t v) (set.contains u v)
     ∙ ap (λ b. set.contains s v || b) (sym (set.contains-union int_cmp_total t u v))
     ∙ sym (set.contains-union int_cmp_total s (set.union t u) v))
 
-or_turned : (a b : Bool) → (a || b) ≡ (b || a)
-or_turned true true = refl
-or_turned true false = refl
-or_turned false true = refl
-or_turned false false = refl
-
 union_turned : (s t : Domain) → set.union s t ≡ set.union t s
 union_turned s t = set.same_set int_cmp_total set.int_cmp-IsAntisymmetric _ _ (λ v.
-    set.contains-union int_cmp_total s t v ∙ or_turned (set.contains s v) (set.contains t v) ∙ sym (set.contains-union int_cmp_total t s v))
+    set.contains-union int_cmp_total s t v ∙ or_comm (set.contains s v) (set.contains t v) ∙ sym (set.contains-union int_cmp_total t s v))
 
 -- one more behind the others
 pub united_push : (ds : List (List (ℤ × ℤ))) (d : List (ℤ × ℤ)) → united (ds ++ d ∷ []) ≡ set.union (united ds) (set_of d)

@@ -10,7 +10,7 @@ use Rattle.pp_language.specs.declared.token.Kind.{Kind}
 use Rattle.pp_language.specs.declared.token.Kind.TheVariants.{Comma}
 use Rattle.pp_language.specs.Texts.{Text}
 use Rattle.pp_language.specs.Phrases as phrases
-use Rattle.pp_language.specs.Phrases.{Phrase, Phrases, no_phrases, phrase_and, count, phrase_words, more_phrase_words, mark}
+use Rattle.pp_language.specs.Phrases.{Phrases, no_phrases, phrase_and, count, phrase_words, more_phrase_words, mark}
 use Rattle.pp_language.specs.Meanings.{blanks_all}
 use Rattle.pp_language.specs.PartsOf as parts
 use Rattle.pp_language.specs.PartsOf.{wanting, filled, state, with_left, with_comma, with_mark, whole, open_words}

@@ -6,10 +6,10 @@ use Rattle.pp_row.specs.declared.cell.Cell.{Cell}
 use Rattle.pp_row.specs.Cells.{cells_of, cells_of_all}
 use Rattle.pp_language.specs.Texts.{Text}
 use Rattle.pp_language.specs.Phrases as phrases
-use Rattle.pp_language.specs.Phrases.{Phrase, Phrases, no_phrases, phrase_and, count, phrase_words, group_words, more_phrase_words, term_part, mark}
+use Rattle.pp_language.specs.Phrases.{Phrase, Phrases, no_phrases, phrase_and, count, phrase_words, more_phrase_words, term_part}
 use Rattle.pp_language.specs.Meanings.{blanks, blanks_all}
 use Rattle.pp_language.specs.PartsOf as parts
-use Rattle.pp_language.specs.PartsOf.{wanting, filled, State, with_phrase, with_left, with_comma, with_mark, open_words}
+use Rattle.pp_language.specs.PartsOf.{wanting, filled, State, with_phrase, open_words}
 use Rattle.pp_parse.specs.declared.parts.Part.{Part}
 use Rattle.pp_parse.specs.declared.reading.Group.{Group}
 use Rattle.pp_parse.specs.declared.reading.Group.TheVariants.{Wanting, Filled}

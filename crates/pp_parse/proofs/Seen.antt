@@ -4,7 +4,7 @@ use Rattle.std.specs.Prelude.{slice_get}
 use Rattle.std.specs.Slice.{IsItemAt}
 use Rattle.std.proofs.lemmas.Option.{slice_get-get_or, slice_get_past}
 use Rattle.pp_language.specs.Phrases as phrases
-use Rattle.pp_language.specs.Phrases.{integer_phrase, variable_phrase, said, no_phrases, phrase_and, term_part, mark}
+use Rattle.pp_language.specs.Phrases.{term_part, mark}
 use Rattle.pp_language.specs.declared.token.Kind.{Kind}
 use Rattle.pp_parse.specs.declared.parts.Part.{Part}
 use Rattle.pp_parse.specs.declared.parts.Part.TheVariants.{Term, Mark}

@@ -15,9 +15,9 @@ ghost use Rattle.pp_parse.specs.Layouts.{IsMember, IsEntry, is_body_entry, is_qu
 use crate::lookahead::{has_callable, has_term, mark_at, term_at};
 use crate::parts::{Part, Phrase};
 use crate::sets::set_at;
-use crate::texts::{is_same, text_of};
+use crate::texts::text_of;
 use pp_domain::Domain;
-use pp_language::{Kind, Token};
+use pp_language::{Kind, Token, is_same};
 use pp_term::{Cell, Mode, Relation};
 use std::alloc::{AllocError, Global};
 

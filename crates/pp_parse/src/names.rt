@@ -8,8 +8,8 @@ ghost use Rattle.pp_language.specs.Words.{atom_of};
 ghost use Rattle.pp_language.specs.Meanings.{texts_by};
 ghost use Rattle.pp_parse.specs.Words.{words_of, texts_in};
 
-use crate::texts::{is_same, text_of, unquoted};
-use pp_language::{Kind, Token};
+use crate::texts::{text_of, unquoted};
+use pp_language::{Kind, Token, is_same};
 use pp_lex::Sentence;
 use pp_term::Names;
 use std::alloc::{AllocError, Global};

@@ -17,8 +17,8 @@ ghost use Rattle.pp_parse.specs.Layouts.{IsLayout, IsLaidOut, HasNoItems, HasIte
 use crate::items::{Entry, are_body_items, are_query_items, item_at};
 use crate::lookahead::{has_mark, term_at};
 use crate::parts::Part;
-use crate::texts::{is_same, text_of};
-use pp_language::{Kind, Token};
+use crate::texts::text_of;
+use pp_language::{Kind, Token, is_same};
 use pp_term::{Cell, Names};
 use std::alloc::{AllocError, Global};
 

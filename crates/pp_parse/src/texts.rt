@@ -1,7 +1,6 @@
 //! The texts of tokens.
 ghost use Rattle.std.specs.Prelude.{◌≡◌, ◌≤◌, length, IfOk};
 ghost use Rattle.pp_language.specs.Texts.{part};
-ghost use Rattle.pp_algebra.specs.Texts.{same_text};
 ghost use Rattle.pp_language.specs.Kinds.{unquoted};
 
 use pp_language::Token;
@@ -34,11 +33,4 @@ pub(crate) fn unquoted(alloc: Global, quoted: &[u8]) -> Result<Vec<u8>, AllocErr
         }
     }
     Ok(text)
-}
-
-/// Whether both are one text.
-pub(crate) fn is_same(left: &[u8], right: &[u8]) -> bool
-    ensures { result ≡ same_text left.now right.now }
-{
-    left == right
 }

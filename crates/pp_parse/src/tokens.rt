@@ -11,8 +11,7 @@ ghost use Rattle.pp_parse.specs.Leaves.{leaf_by};
 ghost use Rattle.pp_parse.specs.Terms.{number_of};
 
 use crate::names::find;
-use crate::texts::is_same;
-use pp_language::Kind;
+use pp_language::{Kind, is_same};
 use pp_term::{Cell, Names};
 use std::alloc::{AllocError, Global};
 

@@ -5,8 +5,8 @@ ghost use Rattle.pp_algebra.specs.Texts.{same_text};
 ghost use Rattle.pp_language.specs.Tokens.{IsTokenOf};
 ghost use Rattle.pp_parse.specs.Words.{words_of, named_by, named_in, blanks_by, blanks_in};
 
-use crate::texts::{is_same, text_of};
-use pp_language::{Kind, Token};
+use crate::texts::text_of;
+use pp_language::{Kind, Token, is_same};
 use pp_term::Names;
 use std::alloc::{AllocError, Global};
 

@@ -1,5 +1,5 @@
 -- There is a reply where it is known what the words ask for and what the text means that is run.
-use Rattle.std.proofs.Common.{◌≡◌, ℕ, suc, ◌<◌, ◌≤◌, ◌⊎◌, inl, inr, List, [], ◌∷◌, ◌++◌, length, refl, arith}
+use Rattle.std.proofs.Common.{ℕ, suc, ◌<◌, ◌⊎◌, inl, inr, List, [], ◌++◌, length, refl, arith}
 use Rattle.std.specs.Prelude.{cond}
 use Rattle.std.proofs.lemmas.Bool.{cases_lt}
 use Rattle.pp_sld.specs.Goals.{program_of}
@@ -14,8 +14,7 @@ use Rattle.pp_language.specs.Texts.{Text}
 use Rattle.pp_language.specs.Programs.{Written}
 use Rattle.pp_language.specs.Limits.{IsTooLong, Writes}
 use Rattle.pp_language.specs.Answers.{usage_text, syntax_text, which_name, limit_text, length_text}
-use Rattle.pp_propagation.specs.Runs.{Run}
-use Rattle.pp_propagation.specs.Replies.{status_of, answer_of, summary_of, RunsAs, IsReplyWithin, faulty, limited, answered, IsReplyToText, too_long, within, IsReplyBy, IsReply, usage, served}
+use Rattle.pp_propagation.specs.Replies.{status_of, answer_of, summary_of, IsReplyWithin, faulty, limited, answered, IsReplyToText, too_long, within, IsReplyBy, usage, served}
 use Rattle.pp_propagation.specs.Laws.{HasMeaning, IsMeant, HasReply}
 use Rattle.pp_propagation.proofs.Exists.{has_run}
 

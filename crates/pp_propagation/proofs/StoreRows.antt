@@ -1,18 +1,18 @@
 -- Faces and stores to which a row was applied are rows, and how many columns they have.
-use Rattle.std.proofs.Common.{◌≡◌, ℕ, true, Bool, ◌⊎◌, inl, inr, List, [], ◌∷◌, length, map, All, ap, ◌∙◌}
+use Rattle.std.proofs.Common.{◌≡◌, ℕ, Bool, ◌⊎◌, inl, inr, List, [], ◌∷◌, length, map, All, ◌∙◌}
 use Rattle.std.specs.Prelude.{nat_eq}
 use Rattle.std.proofs.Math.ListN.{length-map}
 use Rattle.std.proofs.lemmas.List.Elements.{All-nil, All-cons}
 use Rattle.pp_algebra.specs.Terms.{variable, count, put_all, variables_all}
 use Rattle.pp_algebra.specs.Rows.{Domains, Pattern, Row, domain_at, IsWide, IsRow}
-use Rattle.pp_algebra.specs.Canon.{firsts, place, canon}
-use Rattle.pp_algebra.proofs.Bools.{nat_same, nat_is}
+use Rattle.pp_algebra.specs.Canon.{firsts, place, canon, same_either}
 use Rattle.pp_algebra.proofs.Put.{count-put_all}
 use Rattle.pp_algebra.proofs.Resume.{wide_at}
 use Rattle.pp_algebra.proofs.CanonLemmas.{IsSame, nat_eq-IsSame, canon-IsCanonical}
 use Rattle.pp_sld.specs.Goals.{Goal}
-use Rattle.pp_propagation.specs.Stores.{arguments_under, face, face_variables, either_domains, same_either, replaced_by, apply}
+use Rattle.pp_propagation.specs.Stores.{arguments_under, face, face_variables, either_domains, replaced_by, apply}
 use Rattle.pp_algebra.specs.Numbered.{column}
+pub use Rattle.pp_algebra.proofs.Solved.{same_either-IsSame}
 
 all_wide : {V : Type 0} (ds : Domains V) → ((v : V) → IsWide (ds v)) → (vs : List V) → All IsWide (map ds vs)
 all_wide ds h [] = All-nil IsWide
@@ -21,19 +21,6 @@ all_wide ds h (v ∷ vs) = All-cons IsWide (ds v) (map ds vs) (h v) (all_wide ds
 -- the row of a pattern whose domains are wide
 canon_is_row : {V : Type 0} (same : V → V → Bool) → IsSame same → (p : Pattern V) → ((v : V) → IsWide (p.domains v)) → IsRow (canon same p)
 canon_is_row same s p h = record { canonical = canon-IsCanonical same s p; wide = all_wide p.domains h (firsts same [] (variables_all p.columns)) }
-
-same_either-itself : (x : ℕ ⊎ ℕ) → same_either x x ≡ true
-same_either-itself (inl v) = nat_same v
-same_either-itself (inr w) = nat_same w
-
-same_either-is : (x y : ℕ ⊎ ℕ) → same_either x y ≡ true → x ≡ y
-same_either-is (inl v) (inl w) h = ap inl (nat_is v w h)
-same_either-is (inl v) (inr w) h = absurd (cc)
-same_either-is (inr v) (inl w) h = absurd (cc)
-same_either-is (inr v) (inr w) h = ap inr (nat_is v w h)
-
-pub same_either-IsSame : IsSame same_either
-same_either-IsSame = record { itself = same_either-itself; is = same_either-is }
 
 pub face_is_row : (store : Row) (g : Goal ℕ) → IsRow store → IsRow (face store g)
 face_is_row store g h = canon_is_row nat_eq nat_eq-IsSame (record { columns = arguments_under store g; domains = domain_at store.domains }) (λ v. wide_at store.domains v h.wide)

@@ -1,5 +1,5 @@
 -- The laws of runs, as statements.
-use Rattle.std.specs.Prelude.{◌≡◌, ℕ, ◌+◌, ◌⊎◌, List, [], ◌++◌, length, Option, Some, All}
+use Rattle.std.specs.Prelude.{◌≡◌, ℕ, ◌+◌, ◌⊎◌, List, [], ◌++◌, length, Option, All}
 use Rattle.pp_algebra.specs.Terms.{count}
 use Rattle.pp_algebra.specs.Rows.{Row, IsRow}
 use Rattle.pp_sld.specs.Goals.{Goal, Program}

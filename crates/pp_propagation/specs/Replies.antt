@@ -1,5 +1,5 @@
 -- The reply: the status and the bytes that words, a text and what the watchers told call for.
-use Rattle.std.specs.Prelude.{◌≡◌, ℕ, true, false, cond, List, [], ◌∷◌, ◌++◌, length, codes}
+use Rattle.std.specs.Prelude.{◌≡◌, ℕ, true, false, cond, List, [], ◌++◌, length}
 use Rattle.pp_algebra.specs.Rows.{Row}
 use Rattle.pp_sld.specs.Goals.{program_of}
 use Rattle.pp_language.specs.declared.command.CommandKind.{CommandKind}

@@ -1,7 +1,7 @@
 -- The store of a query's variables: how it begins, a goal's face under it, and what applying a row to a goal changes.
-use Rattle.std.specs.Prelude.{ℕ, pos, zero, suc, ◌⊎◌, Bool, false, cond, nat_eq, List, [], ◌∷◌, None}
+use Rattle.std.specs.Prelude.{ℕ, ◌⊎◌, cond, nat_eq, List, [], ◌∷◌, None}
 use Rattle.std.proofs.Common.{inl, inr}
-use Rattle.pp_algebra.specs.Terms.{Tree, int, variable, Trees, none, more, put, put_all, variables_all}
+use Rattle.pp_algebra.specs.Terms.{Tree, variable, Trees, put, put_all, variables_all}
 use Rattle.pp_algebra.specs.Rows.{Domains, Pattern, Row, domain_at}
 use Rattle.pp_algebra.specs.Canon.{has, place, firsts, canon}
 use Rattle.pp_algebra.specs.Solve.{Item, IsSolved, HasNone}
@@ -9,6 +9,7 @@ use Rattle.pp_sld.specs.Goals.{Goal}
 use Rattle.pp_algebra.specs.Numbered.{variables_from, column}
 use Rattle.pp_sld.specs.Verdicts.{Mode}
 use Rattle.pp_language.specs.Programs.{QueryItem, solves, infers, Query}
+pub use Rattle.pp_algebra.specs.Canon.{same_either}
 
 -- what is solved before the run, wherever it stands in the query
 abbrev pub items_of : List QueryItem → List (Item ℕ)
@@ -52,12 +53,6 @@ face_variables store g = firsts nat_eq [] (variables_all (arguments_under store 
 abbrev pub either_domains : Domains ℕ → Domains ℕ → Domains (ℕ ⊎ ℕ)
 either_domains ds es (inl v) = ds v
 either_domains ds es (inr w) = es w
-
-abbrev pub same_either : ℕ ⊎ ℕ → ℕ ⊎ ℕ → Bool
-same_either (inl v) (inl w) = nat_eq v w
-same_either (inl v) (inr w) = false
-same_either (inr v) (inl w) = false
-same_either (inr v) (inr w) = nat_eq v w
 
 -- a variable of the face becomes the given row's column, whose variables are fresh; any other variable stays
 abbrev pub replaced_by : Row → List ℕ → ℕ → Tree (ℕ ⊎ ℕ)

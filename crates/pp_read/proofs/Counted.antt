@@ -10,10 +10,9 @@ use Rattle.std.proofs.lemmas.Option.{same_Some}
 use Rattle.pp_algebra.specs.Terms.{variable, Trees, variables_all}
 use Rattle.pp_algebra.specs.Canon.{has, place, firsts}
 use Rattle.pp_algebra.proofs.Order.{variables_all-put_all}
-use Rattle.pp_algebra.proofs.CanonLemmas.{IsSame, nat_eq-IsSame, has-all, at, at-place}
-use Rattle.pp_row.proofs.Keys.{same_text-IsSame}
+use Rattle.pp_algebra.proofs.CanonLemmas.{IsSame, nat_eq-IsSame, has-all, at, at-place, has-append}
 use Rattle.pp_language.specs.Texts.{Text}
-use Rattle.pp_language.specs.Keys.{Key, named, unnamed, same_key, is_named, named_first, numbered}
+use Rattle.pp_language.specs.Keys.{Key, named, same_key, is_named, named_first, numbered}
 use Rattle.pp_language.specs.Phrases.{Phrase}
 use Rattle.pp_language.specs.Statements.{Item}
 use Rattle.pp_language.specs.Meanings.{blanks_all, keyed_all, keyed_lists, keys_in, said_arguments, item_phrases, goals_by, clause_by}
@@ -22,6 +21,8 @@ use Rattle.pp_read.specs.Sizes.{variables_of}
 use Rattle.pp_parse.proofs.KnownTexts.{is_in}
 use Rattle.pp_read.proofs.ListKeys.{list_keys, lists_same}
 use Rattle.pp_read.proofs.MadeStatements.{clause_lists}
+use Rattle.pp_language.proofs.SameKeys.{same_key-IsSame}
+use Rattle.std.proofs.Math.Bool.{or_assoc}
 
 -- ===== another name for each
 
@@ -68,42 +69,21 @@ module _ {V : Type 0} (same : V → V → Bool) (s : IsSame same) (ks : List V) 
 
 -- ===== the named ones first
 
-or_regroup : (a b c : Bool) → ((a || b) || c) ≡ (a || (b || c))
-or_regroup true b c = refl
-or_regroup false b c = refl
-
 or_second : (a b c : Bool) → (a || (b || c)) ≡ (b || (a || c))
 or_second true true c = refl
 or_second true false c = refl
 or_second false b c = refl
 
 module _ {V : Type 0} (same : V → V → Bool) where
-  has-append : (vs ws : List V) (x : V) → has same (vs ++ ws) x ≡ (has same vs x || has same ws x)
-  has-append [] ws x = refl
-  has-append (v ∷ vs) ws x = ap (λ b. same v x || b) (has-append vs ws x) ∙ sym (or_regroup (same v x) (has same vs x) (has same ws x))
-
   has-parted : (f : V → Bool) (vs : List V) (x : V) → (has same (filter f vs) x || has same (filter (λ k. not (f k)) vs) x) ≡ has same vs x
   has-parted f [] x = refl
   has-parted f (v ∷ vs) x =
       let a = has same (filter f vs) x in
       let b = has same (filter (λ k. not (f k)) vs) x in
       elim (f v) as (λ c. (has same (cond c (v ∷ filter f vs) (filter f vs)) x || has same (cond (not c) (v ∷ filter (λ k. not (f k)) vs) (filter (λ k. not (f k)) vs)) x) ≡ (same v x || has same vs x)) [
-        | true ↦ or_regroup (same v x) a b ∙ ap (λ c. same v x || c) (has-parted f vs x)
+        | true ↦ or_assoc (same v x) a b ∙ ap (λ c. same v x || c) (has-parted f vs x)
         | false ↦ or_second a (same v x) b ∙ ap (λ c. same v x || c) (has-parted f vs x)
       ]
-
-same_key-itself : (k : Key) → same_key k k ≡ true
-same_key-itself (named x) = same_text-IsSame.itself x
-same_key-itself (unnamed i) = nat_eq-IsSame.itself i
-
-same_key-is : (k h : Key) → same_key k h ≡ true → k ≡ h
-same_key-is (named x) (named y) e = ap named (same_text-IsSame.is x y e)
-same_key-is (named x) (unnamed j) e = absurd (cc)
-same_key-is (unnamed i) (named y) e = absurd (cc)
-same_key-is (unnamed i) (unnamed j) e = ap unnamed (nat_eq-IsSame.is i j e)
-
-same_key-IsSame : IsSame same_key
-same_key-IsSame = record { itself = same_key-itself; is = same_key-is }
 
 -- each key of a sentence has a place
 all_placed : (ks : List Key) → All (Stands same_key same_key-IsSame (named_first (firsts same_key [] ks))) ks

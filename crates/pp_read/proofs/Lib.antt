@@ -1,7 +1,6 @@
 pub mod Keys
 pub mod PhraseKeys
 pub mod ListKeys
-pub mod Arguments
 pub mod PhraseTerms
 pub mod PartsAt
 pub mod MadeGoals

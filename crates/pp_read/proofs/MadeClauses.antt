@@ -20,8 +20,8 @@ use Rattle.pp_term.specs.WellFormed.{IsClause, AreArguments}
 use Rattle.pp_parse.specs.declared.parts.Part.{Part}
 use Rattle.pp_parse.specs.declared.items.Entry.{Entry}
 use Rattle.pp_parse.specs.Terms.{terms_of}
-use Rattle.pp_read.specs.Pieces.{tree_at, predicate_of_tree}
-use Rattle.pp_read.specs.Values.{goal_from}
+use Rattle.pp_build.specs.Pieces.{tree_at, predicate_of_tree}
+use Rattle.pp_build.specs.Values.{goal_from}
 use Rattle.pp_read.specs.Passed.{is_wide}
 use Rattle.pp_read.specs.Sizes.{variables_of, IsCounted}
 use Rattle.pp_parse.specs.Parsed.{IsKnown}

@@ -15,17 +15,17 @@ use Rattle.pp_language.specs.Texts.{Text}
 use Rattle.pp_algebra.specs.Texts.{same_text}
 use Rattle.pp_language.specs.Words.{Word, is_name_kind, atom_of}
 use Rattle.pp_language.specs.Phrases as phrases
-use Rattle.pp_language.specs.Phrases.{Phrase, integer_phrase, variable_phrase, said, Phrases, count, is_phrase, are_phrases, term_part, mark, phrase_words, group_words, parts_words}
+use Rattle.pp_language.specs.Phrases.{Phrase, integer_phrase, variable_phrase, said, Phrases, count, are_phrases, term_part, mark, group_words}
 use Rattle.pp_language.specs.Statements.{Item, calls, equates, belongs, compares, asks, set_parts, item_parts, is_item, is_body_item}
 use Rattle.pp_language.specs.Meanings as meanings
-use Rattle.pp_language.specs.Meanings.{texts_by, blanks, item_phrases, item_shape, goal_by, predicate_by}
+use Rattle.pp_language.specs.Meanings.{texts_by, blanks, item_phrases, goal_by, predicate_by}
 use Rattle.pp_parse.specs.declared.parts.Part.{Part}
 use Rattle.pp_parse.specs.declared.items.Entry.{Entry}
 use Rattle.pp_parse.specs.Words.{texts_in}
 use Rattle.pp_parse.specs.Terms.{term_of, terms_of}
 use Rattle.pp_parse.specs.Parts.{AreParts}
-use Rattle.pp_read.specs.Pieces.{tree_at, IsAtom, predicate_of_tree}
-use Rattle.pp_read.specs.Values.{shape_by, goal_of_tree, goal_from, HasCallableAt, IsGoalEntry}
+use Rattle.pp_build.specs.Pieces.{tree_at, IsAtom, predicate_of_tree}
+use Rattle.pp_build.specs.Values.{shape_by, goal_of_tree, goal_from, HasCallableAt, IsGoalEntry}
 use Rattle.pp_parse.specs.Layouts.{IsEntry}
 use Rattle.pp_parse.proofs.KnownTexts.{Known}
 use Rattle.pp_parse.proofs.NamePlaces.{name-place, place-within}

@@ -7,16 +7,16 @@ use Rattle.pp_language.specs.Texts.{Text}
 use Rattle.pp_language.specs.Programs.{solves, infers}
 use Rattle.pp_language.specs.Words.{word, is_name_kind}
 use Rattle.pp_language.specs.Phrases as phrases
-use Rattle.pp_language.specs.Phrases.{Phrase, integer_phrase, variable_phrase, said, Phrases, no_phrases, are_phrases, term_part, mark}
+use Rattle.pp_language.specs.Phrases.{integer_phrase, variable_phrase, said, no_phrases, are_phrases, term_part, mark}
 use Rattle.pp_language.specs.Statements.{Item, calls, equates, belongs, compares, asks, mode_text, set_parts, item_parts, is_item, is_query_item}
 use Rattle.pp_language.specs.Meanings as meanings
-use Rattle.pp_language.specs.Meanings.{blanks, item_phrases, item_by}
+use Rattle.pp_language.specs.Meanings.{item_phrases, item_by}
 use Rattle.pp_parse.specs.declared.parts.Part.{Part}
 use Rattle.pp_parse.specs.declared.items.Entry.{Entry}
 use Rattle.pp_parse.specs.Terms.{term_of, terms_of}
 use Rattle.pp_parse.specs.Parts.{AreParts}
-use Rattle.pp_read.specs.Pieces.{tree_at}
-use Rattle.pp_read.specs.Values.{goal_of_tree, item_from, IsItemEntry}
+use Rattle.pp_build.specs.Pieces.{tree_at}
+use Rattle.pp_build.specs.Values.{goal_of_tree, item_from, IsItemEntry}
 use Rattle.pp_parse.specs.Layouts.{IsEntry}
 use Rattle.pp_read.proofs.MadeGoals.{known_name, called, phrase_stands, two_stand}
 use Rattle.pp_read.proofs.PartsAt.{AreGood}

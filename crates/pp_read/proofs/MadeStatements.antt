@@ -16,7 +16,7 @@ use Rattle.pp_algebra.specs.Texts.{same_text}
 use Rattle.pp_language.specs.Words.{Word, is_name_kind}
 use Rattle.pp_language.specs.Keys.{texts_of, named_first, numbered}
 use Rattle.pp_language.specs.Phrases as phrases
-use Rattle.pp_language.specs.Phrases.{Phrase, integer_phrase, variable_phrase, said, Phrases, count, is_phrase, are_phrases, term_part, mark, phrase_words, parts_words}
+use Rattle.pp_language.specs.Phrases.{Phrase, integer_phrase, variable_phrase, said, Phrases, count, is_phrase, are_phrases, term_part, mark, phrase_words}
 use Rattle.pp_language.specs.Statements.{Item, clause, items_parts, statement_parts, is_callable, is_head, is_item, is_body_item}
 use Rattle.pp_language.specs.Meanings.{blanks, blanks_all, keyed_all, said_arguments, item_phrases, goal_by, goals_by, head_predicate, clause_by, keyed_lists, keys_in}
 use Rattle.pp_language.specs.Limits.{is_above, is_too_wide, item_too_wide, when, passed}
@@ -25,8 +25,8 @@ use Rattle.pp_parse.specs.declared.items.Entry.{Entry}
 use Rattle.pp_parse.specs.Words.{named_in}
 use Rattle.pp_parse.specs.Terms.{terms_of}
 use Rattle.pp_parse.specs.Parts.{AreParts}
-use Rattle.pp_read.specs.Pieces.{tree_at, predicate_of_tree}
-use Rattle.pp_read.specs.Values.{goal_from, HasCallableAt, IsGoalEntry}
+use Rattle.pp_build.specs.Pieces.{tree_at, predicate_of_tree}
+use Rattle.pp_build.specs.Values.{goal_from, HasCallableAt, IsGoalEntry}
 use Rattle.pp_read.specs.Passed.{is_wide, clause_passed}
 use Rattle.pp_parse.specs.Parsed.{IsKnown}
 use Rattle.pp_parse.specs.Layouts.{AreEntries}

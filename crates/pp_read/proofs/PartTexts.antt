@@ -19,6 +19,7 @@ use Rattle.pp_read.proofs.Keys.{texts_of-append}
 use Rattle.pp_read.proofs.PhraseKeys.{name_named, named_in-append, blanks_in-append, phrase_texts, phrase_blanks}
 use Rattle.pp_read.proofs.ListKeys.{list_keys, list_blanks}
 use Rattle.pp_read.proofs.PartsAt.{part_wide, parts_blanks}
+use Rattle.std.proofs.Math.Bool.{or-false}
 
 -- ===== parts and their words
 
@@ -98,10 +99,6 @@ pub record IsTexted (names : List Text) (qs : List Part) (ps : Phrases) (wide : 
   pub blank : parts_blanks qs ≡ blanks_all ps
   pub width : list_any part_wide qs ≡ wide
 
-or_none : (b : Bool) → (b || false) ≡ b
-or_none true = refl
-or_none false = refl
-
 module _ (names : List Text) where
   pub said_texted : (p : Phrase) → is_callable p ≡ true → IsTexted names (term_part p ∷ []) (said_arguments p) (is_too_wide p)
   said_texted (integer_phrase bs) h = absurd (cc)
@@ -109,7 +106,7 @@ module _ (names : List Text) where
   said_texted (said w us) h = record {
     texts = λ n. append-nil (named_in (phrase_words (said w us))) ∙ sym (phrase_texts names n (said w us) h);
     blank = omega arith;
-    width = or_none (is_too_wide (said w us));
+    width = or-false (is_too_wide (said w us));
   }
 
   two_texted : (p q : Phrase) (k : Kind) → is_phrase p ≡ true → is_phrase q ≡ true → IsTexted names (term_part p ∷ mark k ∷ term_part q ∷ []) (two_phrases p q) (is_too_wide p || is_too_wide q)
@@ -122,7 +119,7 @@ module _ (names : List Text) where
         ∙ ap (λ xs. texts_of a ++ xs) (sym (phrase_texts names (n + blanks p) q g) ∙ ap texts_of (sym (append-nil b)))
         ∙ sym (texts_of-append a (b ++ []));
     blank = omega arith;
-    width = ap (λ b. is_too_wide p || b) (or_none (is_too_wide q));
+    width = ap (λ b. is_too_wide p || b) (or-false (is_too_wide q));
   }
 
   member_texted : (p : Phrase) (k : Kind) (s : SetPhrase) → is_phrase p ≡ true → IsTexted names (term_part p ∷ mark k ∷ set_parts s) (phrase_and p no_phrases) (is_too_wide p)
@@ -133,7 +130,7 @@ module _ (names : List Text) where
             let a = variables (keyed names n p) in
             ap (λ xs. named_in (phrase_words p) ++ xs) t.0 ∙ append-nil (named_in (phrase_words p)) ∙ sym (phrase_texts names n p h) ∙ ap texts_of (sym (append-nil a));
         blank = omega (arith, t.1);
-        width = ap (λ b. is_too_wide p || b) t.2 ∙ or_none (is_too_wide p);
+        width = ap (λ b. is_too_wide p || b) t.2 ∙ or-false (is_too_wide p);
       }
 
   mode_texted : (p : Phrase) (w : Word) → is_name_kind w.kind ≡ true → is_callable p ≡ true → IsTexted names (term_part p ∷ mark Infers ∷ term_part (said w no_phrases) ∷ []) (said_arguments p) (is_too_wide p)
@@ -180,7 +177,7 @@ module _ (names : List Text) where
 
   pub items_wide : (xs : List Item) → list_all is_item xs ≡ true → list_any part_wide (items_parts xs) ≡ list_any item_too_wide xs
   items_wide [] h = refl
-  items_wide (x ∷ []) h = ap (list_any part_wide) (append-nil (item_parts x)) ∙ (item_texted names x (and_parts (is_item x) true h).0).width ∙ sym (or_none (item_too_wide x))
+  items_wide (x ∷ []) h = ap (list_any part_wide) (append-nil (item_parts x)) ∙ (item_texted names x (and_parts (is_item x) true h).0).width ∙ sym (or-false (item_too_wide x))
   items_wide (x ∷ y ∷ ys) h =
       let i = and_parts (is_item x) (list_all is_item (y ∷ ys)) h in
       list_any-append part_wide (item_parts x) (mark Comma ∷ items_parts (y ∷ ys))

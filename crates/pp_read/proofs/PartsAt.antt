@@ -20,7 +20,7 @@ use Rattle.pp_parse.specs.declared.parts.Part.TheVariants.{Term, Mark}
 use Rattle.pp_parse.specs.Words.{texts_in}
 use Rattle.pp_parse.specs.Terms.{term_of}
 use Rattle.pp_parse.specs.Parts.{part_blanks, AreParts}
-use Rattle.pp_read.specs.Pieces.{part_tree, tree_at, IsTermPart, HasTermAt}
+use Rattle.pp_build.specs.Pieces.{part_tree, tree_at, IsTermPart, HasTermAt}
 use Rattle.pp_read.specs.Passed.{is_wide}
 use Rattle.pp_parse.proofs.KnownTexts.{Known, all_first, all_second}
 use Rattle.pp_parse.proofs.Spelled.{spelled_first, spelled_second}

@@ -1,5 +1,5 @@
 -- One more statement of a text.
-use Rattle.std.proofs.Common.{◌≡◌, ℕ, suc, ◌+◌, Bool, true, false, ◌||◌, List, [], ◌∷◌, ◌++◌, length, map, Option, Some, None, refl, ap, sym, ◌∙◌, subst, arith, append-nil}
+use Rattle.std.proofs.Common.{◌≡◌, ℕ, suc, ◌+◌, true, false, ◌||◌, List, [], ◌∷◌, ◌++◌, length, map, Option, Some, None, refl, ap, sym, ◌∙◌, subst, arith, append-nil}
 use Rattle.std.specs.Prelude.{All}
 use Rattle.std.specs.List.{list_any}
 use Rattle.std.proofs.Math.ListN.{length-map}
@@ -19,6 +19,7 @@ use Rattle.pp_read.specs.declared.sentence.Said.TheVariants.{Directive, Clause, 
 use Rattle.pp_read.specs.Sizes.{IsReadClause}
 use Rattle.pp_read.specs.Sentences.{IsMade}
 use Rattle.pp_read.specs.Progress.{IsAsked, IsProgress}
+use Rattle.std.proofs.Math.Bool.{or-false}
 
 -- ===== limits, one statement further
 
@@ -64,11 +65,7 @@ none_asked (clause p is ∷ ss) h = none_asked ss h
 none_asked (query is ∷ ss) h = absurd (cc)
 
 any-push : (ss : List Statement) (s : Statement) → list_any is_query ss ≡ false → list_any is_query (ss ++ s ∷ []) ≡ is_query s
-any-push ss s h = list_any-append is_query ss (s ∷ []) ∙ ap (λ b. b || (is_query s || false)) h ∙ last (is_query s)
-  where
-    last : (b : Bool) → (b || false) ≡ b
-    last true = refl
-    last false = refl
+any-push ss s h = list_any-append is_query ss (s ∷ []) ∙ ap (λ b. b || (is_query s || false)) h ∙ or-false (is_query s)
 
 -- ===== progress
 

@@ -18,14 +18,14 @@ use Rattle.pp_term.specs.declared.clause.Clause as clauses
 use Rattle.pp_term.specs.declared.query.Query as queries
 use Rattle.pp_row.specs.Columns.{trees_of}
 use Rattle.pp_term.specs.Meanings.{predicate_of, goal_of}
-use Rattle.pp_read.specs.Meanings.{item_of}
+use Rattle.pp_build.specs.Meanings.{item_of}
 use Rattle.pp_parse.specs.declared.parts.Part.{Part}
 use Rattle.pp_parse.specs.declared.items.Entry.{Entry}
 use Rattle.pp_parse.specs.declared.statement.Layout.{Layout}
 use Rattle.pp_parse.specs.declared.statement.Layout.TheVariants as layouts
 use Rattle.pp_read.specs.declared.sentence.Said.TheVariants.{Directive, Clause, Query, OverClause, OverQuery}
-use Rattle.pp_read.specs.Pieces.{tree_at, predicate_of_tree}
-use Rattle.pp_read.specs.Values.{goal_from, item_from, HasCallableAt, IsGoalEntry, IsItemEntry}
+use Rattle.pp_build.specs.Pieces.{tree_at, predicate_of_tree}
+use Rattle.pp_build.specs.Values.{goal_from, item_from, HasCallableAt, IsGoalEntry, IsItemEntry}
 use Rattle.pp_read.specs.Sizes.{is_annotated}
 use Rattle.pp_read.specs.Passed.{is_wide, is_infer, clause_passed, query_passed}
 use Rattle.pp_parse.specs.Layouts.{AreEntries, IsLayout}

@@ -9,7 +9,7 @@ use Rattle.pp_algebra.specs.Terms as terms
 use Rattle.pp_algebra.specs.Terms.{Tree, Trees, none, more, variables_all}
 use Rattle.pp_sld.specs.BuiltIns.{plus, times, indomain}
 use Rattle.pp_sld.specs.Goals as goals
-use Rattle.pp_sld.specs.Goals.{user, equals, member, test}
+use Rattle.pp_sld.specs.Goals.{user, test}
 use Rattle.pp_language.specs.declared.token.Kind.{Kind}
 use Rattle.pp_language.specs.declared.token.Kind.TheVariants.{Less, AtMost, Equal}
 use Rattle.pp_language.specs.Texts.{Text}
@@ -27,7 +27,7 @@ use Rattle.pp_term.specs.declared.query.Item as query
 use Rattle.pp_term.specs.declared.query.Item.TheVariants as items
 use Rattle.pp_row.specs.Columns.{trees_of}
 use Rattle.pp_term.specs.Meanings.{shape_of, goal_of}
-use Rattle.pp_read.specs.Meanings.{item_of}
+use Rattle.pp_build.specs.Meanings.{item_of}
 use Rattle.pp_term.specs.WellFormed.{arguments_of, AreArguments, IsGoal, IsItem}
 use Rattle.pp_parse.specs.Terms.{term_of, terms_of}
 use Rattle.pp_parse.proofs.KnownTexts.{Known, all_first, all_second}

@@ -22,7 +22,7 @@ use Rattle.pp_language.specs.Faults.{AllSay, IsInGrammar, sentence_words}
 use Rattle.pp_language.specs.Meanings.{said_arguments, item_phrases, texts_by, text_names, clauses_by, query_by, asked_by}
 use Rattle.pp_language.specs.Limits.{Writes, Passes, is_above, is_too_wide, item_too_wide, variable_count, when, passed, or_later, first_passed}
 use Rattle.pp_term.specs.Meanings.{clause_of}
-use Rattle.pp_read.specs.Meanings.{query_of}
+use Rattle.pp_build.specs.Meanings.{query_of}
 use Rattle.pp_term.specs.declared.query.Query.{Query}
 use Rattle.pp_lex.specs.declared.lists.Sentence.{Sentence}
 use Rattle.pp_lex.specs.Readings.{tokens_of}

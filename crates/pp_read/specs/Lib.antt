@@ -1,6 +1,3 @@
-pub mod Meanings
-pub mod Pieces
-pub mod Values
 pub mod Passed
 pub mod Sizes
 pub mod Sentences

@@ -8,7 +8,7 @@ use Rattle.pp_language.specs.Statements.{Statement, is_query}
 use Rattle.pp_language.specs.Faults.{AllSay, IsFault, IsSyntaxFault}
 use Rattle.pp_language.specs.Limits.{Passes}
 use Rattle.pp_term.specs.Meanings.{clause_of}
-use Rattle.pp_read.specs.Meanings.{query_of}
+use Rattle.pp_build.specs.Meanings.{query_of}
 use Rattle.pp_lex.specs.declared.lists.Sentence.{Sentence}
 use Rattle.pp_read.specs.declared.program.Program.{Program}
 use Rattle.pp_read.specs.declared.progress.Progress.{Progress}

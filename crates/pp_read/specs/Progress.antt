@@ -7,7 +7,7 @@ use Rattle.pp_language.specs.Meanings.{clauses_by, query_by, asked_by}
 use Rattle.pp_language.specs.Limits.{first_passed}
 use Rattle.pp_term.specs.declared.query.Query.{Query}
 use Rattle.pp_term.specs.Meanings.{clause_of}
-use Rattle.pp_read.specs.Meanings.{query_of}
+use Rattle.pp_build.specs.Meanings.{query_of}
 use Rattle.pp_read.specs.declared.progress.Progress.{Progress}
 use Rattle.pp_read.specs.Sizes.{IsReadClause, IsReadQuery}
 

@@ -6,7 +6,7 @@ use Rattle.pp_language.specs.Statements.{Statement, directive, clause, query, Sa
 use Rattle.pp_language.specs.Meanings.{clause_by, query_by}
 use Rattle.pp_language.specs.Limits.{passed}
 use Rattle.pp_term.specs.Meanings.{clause_of}
-use Rattle.pp_read.specs.Meanings.{query_of}
+use Rattle.pp_build.specs.Meanings.{query_of}
 use Rattle.pp_read.specs.declared.sentence.Said.{Said}
 use Rattle.pp_read.specs.declared.sentence.Said.TheVariants.{Directive, Clause, Query, OverClause, OverQuery}
 use Rattle.pp_read.specs.Sizes.{IsReadClause, IsReadQuery}

@@ -1,14 +1,11 @@
 //! Reads a text: the program that it writes, or its first fault, or the first limit that it passes.
 #![tactic(auto)]
 
-mod clauses;
 mod fault;
-mod goals;
 mod limits;
 mod program;
 mod progress;
 mod sentence;
-mod terms;
 mod text;
 
 pub use fault::ReadFault;

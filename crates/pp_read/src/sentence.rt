@@ -8,8 +8,8 @@ ghost use Rattle.pp_parse.specs.Words.{words_of, texts_in};
 ghost use Rattle.pp_parse.specs.Parsed.{IsReady};
 ghost use Rattle.pp_read.specs.Sentences.{IsMade, IsSaid};
 
-use crate::clauses::{clause, query};
 use crate::limits::{clause_limit, query_limit};
+use pp_build::{clause, query};
 use pp_language::{Token, Which};
 use pp_parse::{Layout, Parsed, Part, Variables, parse};
 use pp_term::{Clause, Names, Query};

@@ -1,4 +1,3 @@
-pub mod SameTexts
 pub mod Spelled
 pub mod WordTokens
 pub mod Phrased

@@ -1,5 +1,5 @@
 -- Variables by their names are numbered as they were.
-use Rattle.std.proofs.Common.{◌≡◌, ℕ, zero, suc, ◌+◌, ◌^◌, ◌<◌, ◌≤◌, true, false, not, cond, List, [], ◌∷◌, ◌++◌, map, length, Option, Some, None, inl, inr, refl, ap, sym, ◌∙◌, subst, arith, append-nil}
+use Rattle.std.proofs.Common.{◌≡◌, ℕ, zero, suc, ◌+◌, ◌^◌, ◌<◌, ◌≤◌, true, false, not, cond, List, [], ◌∷◌, ◌++◌, map, length, Option, Some, None, refl, ap, sym, ◌∙◌, subst, arith, append-nil}
 use Rattle.std.specs.Prelude.{filter}
 use Rattle.std.specs.List.{flat_map, list_all}
 use Rattle.std.proofs.lemmas.Bool.{and_from, and_parts, false_from_ne_true, or_from}
@@ -9,29 +9,17 @@ use Rattle.pp_algebra.specs.Rows.{Domain, IsNumbered, Pattern, Row}
 use Rattle.pp_algebra.specs.Covers.{IsIn}
 use Rattle.pp_algebra.specs.Canon.{has, firsts, canon, Distinct}
 use Rattle.pp_algebra.proofs.Antisym.{put_all-agree, occurs}
-use Rattle.pp_algebra.proofs.CanonLemmas.{IsSame, at, name, nat_eq-IsSame}
+use Rattle.pp_algebra.proofs.CanonLemmas.{at, name}
 use Rattle.pp_algebra.proofs.OneCanon.{one_canon}
 use Rattle.pp_algebra.proofs.Order.{variables_all-put_all}
-use Rattle.pp_roundtrip.proofs.SameTexts.{same_text-IsSame}
 use Rattle.pp_language.specs.Texts.{Text}
 use Rattle.pp_language.specs.Keys.{Key, named, unnamed, same_key, is_named, named_first, numbered}
 use Rattle.pp_language.specs.Meanings.{keys_in}
 use Rattle.pp_language.specs.Printing.{variable_text}
 use Rattle.pp_roundtrip.proofs.Phrased.{by_name_all}
 use Rattle.pp_roundtrip.proofs.ReadBack.{own_names}
-
-same_key-itself : (k : Key) → same_key k k ≡ true
-same_key-itself (named x) = same_text-IsSame.itself x
-same_key-itself (unnamed i) = nat_eq-IsSame.itself i
-
-same_key-is : (k h : Key) → same_key k h ≡ true → k ≡ h
-same_key-is (named x) (named y) e = ap named (same_text-IsSame.is x y e)
-same_key-is (named x) (unnamed j) e = absurd (cc)
-same_key-is (unnamed i) (named y) e = absurd (cc)
-same_key-is (unnamed i) (unnamed j) e = ap unnamed (nat_eq-IsSame.is i j e)
-
-same_key-IsSame : IsSame same_key
-same_key-IsSame = record { itself = same_key-itself; is = same_key-is }
+use Rattle.pp_language.proofs.SameKeys.{same_key-is, same_key-IsSame}
+use Rattle.pp_algebra.proofs.Numbered.{numbered_below}
 
 -- ===== named ones stand first as they stand
 
@@ -76,7 +64,7 @@ named_is x y e = cc
 key_is : (v w : ℕ) → v < 10 ^ 64 → w < 10 ^ 64 → same_key (key v) (key w) ≡ true → v ≡ w
 key_is v w l k e = own_names v w l k (named_is (variable_text v) (variable_text w) (same_key-is (key v) (key w) e))
 
--- each number below the end of the list is below the greatest
+-- each number numbered_below the end of the list is numbered_below the greatest
 abbrev AreBelow : ℕ → ℕ → Type 0
 AreBelow k m = (v : ℕ) → k ≤ v → v < k + m → v < 10 ^ 64
 
@@ -93,18 +81,6 @@ keys_distinct k (suc m) b =
     (no_key (suc k) m k c (omega arith) (b k (omega arith) (omega arith)), keys_distinct (suc k) m c)
 
 -- ===== numbers by first occurrence
-
-grows : (vs : List ℕ) (n m : ℕ) → IsNumbered n vs m → n ≤ m
-grows [] n m h = omega (arith, h)
-grows (x ∷ vs) n m (inl h) = grows vs n m h.1
-grows (x ∷ vs) n m (inr h) = omega (arith, grows vs (suc n) m h.1)
-
-below : (vs : List ℕ) (n m v : ℕ) → IsNumbered n vs m → IsIn v vs → v < m
-below [] n m v h i = absurd i
-below (x ∷ vs) n m v (inl h) (inl e) = omega (arith, e, h.0, grows vs n m h.1)
-below (x ∷ vs) n m v (inr h) (inl e) = omega (arith, e, h.0, grows vs (suc n) m h.1)
-below (x ∷ vs) n m v (inl h) (inr i) = below vs n m v h.1 i
-below (x ∷ vs) n m v (inr h) (inr i) = below vs (suc n) m v h.1 i
 
 abbrev anys : ℕ → List (Option Domain)
 anys zero = []
@@ -133,7 +109,7 @@ module _ (ts : Trees ℕ) (m : ℕ) (canonical : IsNumbered 0 (variables_all ts)
   pattern = record { columns = by_name_all ts; domains = λ k. None }
 
   named_by : (v : ℕ) → IsIn v (variables_all ts) → name same_key (at same_key (keys_from 0 m) v) ≡ variable (key v)
-  named_by v i = let e : 0 + v ≡ v = omega arith in ap (name same_key) (key_at 0 m v (below (variables_all ts) 0 m v canonical i)) ∙ ap (λ n. variable (key n)) e
+  named_by v i = let e : 0 + v ≡ v = omega arith in ap (name same_key) (key_at 0 m v (numbered_below (variables_all ts) 0 m v canonical i)) ∙ ap (λ n. variable (key n)) e
 
   row_is : row ≡ canon same_key pattern
   row_is = one_canon same_key same_key-IsSame pattern row (keys_from 0 m)

@@ -6,7 +6,7 @@ use Rattle.std.specs.Fmt.{signed_decimal}
 use Rattle.std.proofs.lemmas.Bool.{and_from, and_parts, both_ways, cond-true, cond-false, false_from_ne_true, or_left, or_right}
 use Rattle.pp_algebra.specs.Terms.{Tree, int, node, variable, Trees, none, more, put_all}
 use Rattle.pp_algebra.specs.Canon.{has, place, Distinct}
-use Rattle.pp_roundtrip.proofs.SameTexts.{same_text-itself}
+use Rattle.pp_algebra.proofs.SameText.{same_text-itself, same_text-is}
 use Rattle.pp_language.specs.declared.token.Kind.TheVariants.{Integer, Variable, Left, Right, Comma}
 use Rattle.pp_language.specs.Texts.{Text}
 use Rattle.pp_algebra.specs.Texts.{same_text}
@@ -15,7 +15,6 @@ use Rattle.pp_language.specs.Phrases.{Phrase, integer_phrase, variable_phrase, s
 use Rattle.pp_language.specs.Keys.{Key, named, key_of}
 use Rattle.pp_language.specs.Meanings.{blanks, keyed, keyed_all}
 use Rattle.pp_language.specs.Printing.{atom_text, name_at, variable_text, term_text, arguments_text, more_arguments_text}
-use Rattle.pp_language.proofs.Forms.{same_text-true}
 use Rattle.pp_roundtrip.specs.Laws.{is_writable, AreNames, IsOver, AreOver, by_name, ends_tokens}
 use Rattle.pp_roundtrip.proofs.Spelled.{atom_word, atom-written, integer-written, variable-written, decimal-writes}
 use Rattle.pp_roundtrip.proofs.WordTokens.{text_of, AreFirst, ended, alone}
@@ -45,7 +44,7 @@ pub place-at : (names : List Text) (f : ℕ) → Distinct same_text names → f 
 place-at [] f d l = absurd (omega arith)
 place-at (x ∷ names) zero d l = cond-true (same_text x x) _ _ (same_text-itself x)
 place-at (x ∷ names) (suc f) d l =
-    let n : same_text x (get_or names f []) ≡ false = false_from_ne_true _ (λ e. both_ways _ d.0 (subst (λ y. has same_text names y ≡ true) (sym (same_text-true x (get_or names f []) e)) (has-at names f (omega arith)))) in
+    let n : same_text x (get_or names f []) ≡ false = false_from_ne_true _ (λ e. both_ways _ d.0 (subst (λ y. has same_text names y ≡ true) (sym (same_text-is x (get_or names f []) e)) (has-at names f (omega arith)))) in
     cond-false (same_text x (get_or names f [])) _ _ n ∙ ap suc (place-at names f d.1 (omega arith))
 
 behind_text : (vs us ws : List Word) (x y : Text) → text_of (vs ++ (us ++ ws)) ≡ x ++ text_of (us ++ ws) → text_of (us ++ ws) ≡ y ++ text_of ws → text_of ((vs ++ us) ++ ws) ≡ (x ++ y) ++ text_of ws
@@ -122,7 +121,7 @@ module _ (names : List Text) (known : AreNames names) where
     are_phrases-of (more t ts) o = and_from _ _ (is_phrase-of t o.0) (are_phrases-of ts o.1)
 
   key_is : (n v : ℕ) → v < 10 ^ 64 → key_of n (variable_text v) ≡ named (variable_text v)
-  key_is n v l = cond-false (same_text (variable_text v) (codes "_")) _ _ (false_from_ne_true _ (λ e. no_blank v l (same_text-true (variable_text v) (codes "_") e)))
+  key_is n v l = cond-false (same_text (variable_text v) (codes "_")) _ _ (false_from_ne_true _ (λ e. no_blank v l (same_text-is (variable_text v) (codes "_") e)))
     where
       no_blank : (v : ℕ) → v < 10 ^ 64 → variable_text v ≡ codes "_" → ⊥
       no_blank v l e = omega (arith, (decimal-writes v l).some, ap length e)

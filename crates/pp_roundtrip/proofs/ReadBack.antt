@@ -13,13 +13,13 @@ use Rattle.pp_language.specs.Tokens.{clear, ends_gap, gap_from, IsGap, IsLastGap
 use Rattle.pp_language.specs.Words.{Word, word_of}
 use Rattle.pp_language.specs.Phrases.{phrase_words}
 use Rattle.pp_language.specs.Printing.{term_text}
-use Rattle.pp_language.proofs.Forms.{same_text-true}
 use Rattle.pp_language.proofs.OneToken.{same_token}
 use Rattle.pp_language.proofs.OneReading.{one_list}
 use Rattle.pp_roundtrip.specs.Laws.{AreNames, IsOver, by_name, Mean, ends_tokens, EndsTerm, OpensNone, ReadAlone, ReadAmong, OwnNames}
 use Rattle.pp_roundtrip.proofs.Spelled.{decimal-writes}
 use Rattle.pp_roundtrip.proofs.WordTokens.{text_of, AreFirst, tokens_from, are_tokens, words_are}
 use Rattle.pp_roundtrip.proofs.Phrased.{phrase_of, phrase_text, phrase_first, is_phrase-of, phrase_means}
+use Rattle.pp_algebra.proofs.SameText.{same_text-is}
 
 up_to : (text : Text) (i j : ℕ) (ts : List Token) → AreTokensOf text i ts j → i ≤ j
 up_to text i j [] h = omega (arith, h)
@@ -65,7 +65,7 @@ opens_none text behind j k [] ended left h = tt
 opens_none text behind j k (t ∷ ts) ended left h = λ e.
     let n = t.first - j in
     let spelled : spells Left (part text t.first t.last) ≡ true = subst (λ x. spells x (part text t.first t.last) ≡ true) e h.2.spelled in
-    let o = opening (t.last - t.first) (drop t.first text) (same_text-true (part text t.first t.last) (codes "(") spelled) in
+    let o = opening (t.last - t.first) (drop t.first text) (same_text-is (part text t.first t.last) (codes "(") spelled) in
     let place : j + n ≡ t.first = omega (arith, h.0) in
     let rest : drop n behind ≡ 40 ∷ o.0 = ap (drop n) (sym left) ∙ drop-drop n j text ∙ ap (λ m. drop m text) place ∙ o.1 in
     let gap : IsGap (take n behind) = subst (λ x. IsGap (take n x)) left h.1 in

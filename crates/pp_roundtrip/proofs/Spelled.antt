@@ -1,5 +1,5 @@
 -- What is printed of an atom, an integer and a variable: it is one token, and what it writes.
-use Rattle.std.proofs.Common.{◌≡◌, ℕ, suc, ℤ, pos, negsuc, ◌+◌, ◌*◌, ◌-◌, ◌/◌, ◌%◌, ◌^◌, ◌<◌, ◌≤◌, Bool, true, false, not, ◌&&◌, ◌||◌, cond, nat_eq, nat_le, [], ◌∷◌, ◌++◌, length, refl, ap, sym, ◌∙◌, subst, ⊎_elim, arith, length-append}
+use Rattle.std.proofs.Common.{◌≡◌, ℕ, suc, ℤ, pos, negsuc, ◌+◌, ◌-◌, ◌/◌, ◌%◌, ◌^◌, ◌<◌, ◌≤◌, Bool, true, false, not, ◌||◌, cond, nat_eq, nat_le, [], ◌∷◌, ◌++◌, length, refl, ap, sym, ◌∙◌, subst, ⊎_elim, arith, length-append}
 use Rattle.std.specs.Fmt.{decimal, signed_decimal}
 use Rattle.std.specs.List.{list_all}
 use Rattle.std.proofs.lemmas.Bool.{and_from, and_left, and_parts, and_right, both_ways, cases_Bool, cond-true, cond-false, eqb-true, le-leb, not-true, or_cases, or_left, or_parts, or_right}
@@ -16,6 +16,8 @@ use Rattle.pp_language.specs.Printing.{doubled, atom_text, variable_text}
 use Rattle.pp_language.proofs.Bytes.{digit_begins}
 use Rattle.pp_language.proofs.Forms.{any_form, form_of_digit, form_of_minus, form_of_lower, form_of_quote, form_of_variable}
 use Rattle.pp_roundtrip.specs.Laws.{is_writable, ends_tokens}
+use Rattle.pp_algebra.proofs.Bools.{left_alone}
+use Rattle.pp_language.proofs.Digits.{value_of-append}
 
 -- ===== digits
 
@@ -27,10 +29,6 @@ pub record Writes (n : ℕ) (ds : Text) : Type 0 where
 
 digit_is : (n : ℕ) → n < 10 → is_digit (48 + n) ≡ true
 digit_is n l = and_from (nat_le 48 (48 + n)) (nat_le (48 + n) 57) (le-leb 48 (48 + n) (omega arith)) (le-leb (48 + n) 57 (omega arith))
-
-value_of-append : (n : ℕ) (bs cs : Text) → value_of n (bs ++ cs) ≡ value_of (value_of n bs) cs
-value_of-append n [] cs = refl
-value_of-append n (b ∷ bs) cs = value_of-append (10 * n + (b - 48)) bs cs
 
 one_digit : (n : ℕ) → n < 10 → Writes n ((48 + n) ∷ [])
 one_digit n l = record { all = and_from (is_digit (48 + n)) true (digit_is n l) refl; some = omega arith; value = omega arith }
@@ -133,13 +131,6 @@ behind bs = doubled bs ++ 39 ∷ []
 
 behind-other : (b : ℕ) (bs : Text) → nat_eq b 39 ≡ false → behind (b ∷ bs) ≡ b ∷ behind bs
 behind-other b bs h = ap (λ x. (x ++ doubled bs) ++ 39 ∷ []) (cond-false (nat_eq b 39) (39 ∷ 39 ∷ []) (b ∷ []) h)
-
-or_none : (t : Bool) → (t || false) ≡ t
-or_none true = refl
-or_none false = refl
-
-left_alone : (p q r a : Bool) → p ≡ true → q ≡ false → ((p && r) || (q && a)) ≡ r
-left_alone p q r a e f = ap (λ x. (x && r) || (q && a)) e ∙ ap (λ x. r || (x && a)) f ∙ or_none r
 
 rest-other : (b : ℕ) (bs : Text) → nat_eq b 39 ≡ false → is_plain_byte b ≡ true → is_quoted_rest (b ∷ bs) ≡ is_quoted_rest bs
 rest-other b bs h p = left_alone _ _ (is_quoted_rest bs) (is_after_quote bs) p h

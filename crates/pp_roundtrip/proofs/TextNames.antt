@@ -8,7 +8,7 @@ use Rattle.std.proofs.lemmas.List.Folds.{list_all-append}
 use Rattle.pp_algebra.specs.Canon.{has, firsts, Distinct}
 use Rattle.pp_algebra.proofs.CanonLemmas.{IsSame}
 use Rattle.pp_algebra.proofs.OneCanon.{distinct_push}
-use Rattle.pp_roundtrip.proofs.SameTexts.{same_text-IsSame}
+use Rattle.pp_algebra.proofs.SameText.{same_text-IsSame}
 use Rattle.pp_language.specs.declared.token.Kind.{Kind}
 use Rattle.pp_language.specs.declared.token.Kind.TheVariants.{Atom, Quoted, Variable}
 use Rattle.pp_language.specs.declared.token.Token.{Token}

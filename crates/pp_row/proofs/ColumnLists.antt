@@ -1,10 +1,11 @@
 -- Columns and domains as lists.
 use Rattle.std.proofs.Common.{◌≡◌, ℕ, zero, suc, ◌+◌, ℤ, List, [], ◌∷◌, ◌++◌, length, map, Option, refl, ap, sym, ◌∙◌, arith, append_assoc, append-nil, inr, subst}
 use Rattle.std.proofs.Math.ListN.{length-map}
-use Rattle.pp_algebra.specs.Terms.{Tree, variable, none, more, put, put_all, variables, variables_all}
+use Rattle.pp_algebra.specs.Terms.{Tree, variable, Trees, none, more, count, put, put_all, variables, variables_all}
 use Rattle.pp_algebra.specs.Rows.{IsNumbered, AreWide, IsRow}
 use Rattle.pp_algebra.specs.Numbered.{call, variables_from}
 use Rattle.pp_row.specs.Columns.{trees_of, list_of, set_by, sets_of, row_by}
+use Rattle.pp_algebra.proofs.Numbered.{from_numbered}
 
 pub list_of-trees_of : (ts : List (Tree ℕ)) → list_of (trees_of ts) ≡ ts
 list_of-trees_of [] = refl
@@ -12,6 +13,18 @@ list_of-trees_of (t ∷ ts) = ap (λ us. t ∷ us) (list_of-trees_of ts)
 
 pub same_trees_of : (ts us : List (Tree ℕ)) → trees_of ts ≡ trees_of us → ts ≡ us
 same_trees_of ts us e = sym (list_of-trees_of ts) ∙ ap (λ ws. list_of ws) e ∙ list_of-trees_of us
+
+pub count-trees_of : (ts : List (Tree ℕ)) → count (trees_of ts) ≡ length ts
+count-trees_of [] = refl
+count-trees_of (t ∷ ts) = ap suc (count-trees_of ts)
+
+-- rows of one width have as many columns
+pub same_length : (ts us : List (Tree ℕ)) (xs ys : Trees ℕ) → trees_of ts ≡ xs → trees_of us ≡ ys → count xs ≡ count ys → length ts ≡ length us
+same_length ts us xs ys e f g = sym (count-trees_of ts) ∙ ap count e ∙ g ∙ ap count (sym f) ∙ count-trees_of us
+
+-- rows of as many columns are of one width
+pub same_width : (ts us : List (Tree ℕ)) (xs ys : Trees ℕ) → trees_of ts ≡ xs → trees_of us ≡ ys → length ts ≡ length us → count xs ≡ count ys
+same_width ts us xs ys e f g = ap count (sym e) ∙ count-trees_of ts ∙ g ∙ sym (count-trees_of us) ∙ ap count f
 
 pub put-trees_of : (s : ℕ → Tree ℕ) (ts : List (Tree ℕ)) → put_all s (trees_of ts) ≡ trees_of (map (put s) ts)
 put-trees_of s [] = refl
@@ -29,10 +42,6 @@ from_push (t ∷ ts) first zero k h e = absurd (cc)
 from_push (t ∷ ts) first (suc n) k h e =
     let f : t ≡ variable first = cc in
     rw (f, from_push ts (suc first) n k (omega (arith, h)) (cc)) refl
-
-from_numbered : (first n m : ℕ) → first + n ≡ m → IsNumbered first (variables_all (variables_from first n)) m
-from_numbered first zero m e = omega arith
-from_numbered first (suc n) m e = inr (refl, from_numbered (suc first) n m (omega arith))
 
 -- the call of a row, as it is kept
 module _ (ds : List (Option (List (ℤ × ℤ)))) (us : List (Tree ℕ)) (e : trees_of us ≡ variables_from 0 (length ds)) where

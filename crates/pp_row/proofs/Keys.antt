@@ -9,19 +9,6 @@ use Rattle.std.proofs.lemmas.List.{map-append, take_more}
 use Rattle.pp_algebra.specs.Texts.{same_text}
 use Rattle.pp_row.proofs.Numbering.{place_taken, place-push, firsts-append}
 
-pub same_text-itself : (t : List ℕ) → same_text t t ≡ true
-same_text-itself [] = refl
-same_text-itself (b ∷ t) = both_true _ _ (nat_same b) (same_text-itself t)
-
-same_text-is : (t u : List ℕ) → same_text t u ≡ true → t ≡ u
-same_text-is [] [] h = refl
-same_text-is [] (c ∷ u) h = absurd (cc)
-same_text-is (b ∷ t) [] h = absurd (cc)
-same_text-is (b ∷ t) (c ∷ u) h = rw (nat_is b c (left_true _ _ h), same_text-is t u (right_true (nat_eq b c) _ h)) refl
-
-pub same_text-IsSame : IsSame same_text
-same_text-IsSame = record { itself = same_text-itself; is = same_text-is }
-
 module _ {V : Type 0} (same : V → V → Bool) (s : IsSame same) where
   turned : (v w : V) (b : Bool) → same v w ≡ b → same w v ≡ b
   turned v w true e = rw (s.is v w e) (s.itself w)

@@ -1,5 +1,5 @@
 -- One cell further.
-use Rattle.std.proofs.Common.{◌≡◌, ℕ, zero, suc, ◌+◌, ◌-◌, ◌<◌, ◌≤◌, List, [], ◌∷◌, length, drop, Option, Some, None, option_map, option_and_then, refl, ap, ◌∙◌, sym, arith, add-one, drop-cons, get_or, subst, length-append, length-drop}
+use Rattle.std.proofs.Common.{◌≡◌, ℕ, ℤ, zero, suc, ◌+◌, ◌-◌, ◌<◌, ◌≤◌, List, [], ◌∷◌, length, drop, Option, Some, None, option_map, option_and_then, refl, ap, ◌∙◌, sym, arith, add-one, drop-cons, get_or, subst, length-append, length-drop}
 use Rattle.std.proofs.lemmas.List.Elements.{All-drop, All-get_or}
 use Rattle.pp_row.specs.declared.cell.Cell.{Cell}
 use Rattle.pp_row.specs.declared.cell.Cell.TheVariants.{Int, Atom, Compound, Var}
@@ -9,11 +9,31 @@ use Rattle.pp_algebra.proofs.Joined.{join-join, count-join}
 use Rattle.pp_row.specs.Cells.{arity_of, head_of, IsLegalCell, cells_of, cells_of_all}
 use Rattle.pp_row.specs.Reading.{split, step, stack, all_of, forest, IsForest, from}
 use Rattle.pp_row.proofs.OneTerm.{split-is, compound_head, stack-is}
+use Rattle.std.proofs.Math.Seq.{drop-nil}
 
 abbrev pub cell_of : Tree ℕ → Cell
 cell_of (int n) = Int n
 cell_of (node f ts) = head_of f (count ts)
 cell_of (variable v) = Var v
+
+pub same_head : (f g k n : ℕ) → head_of f k ≡ head_of g n → (f ≡ g) × (k ≡ n)
+same_head f g zero zero e = (cc, refl)
+same_head f g zero (suc n) e = absurd (cc)
+same_head f g (suc k) zero e = absurd (cc)
+same_head f g (suc k) (suc n) e = (cc, cc)
+
+pub int_head : (n : ℤ) (g k : ℕ) → Int n ≡ head_of g k → ⊥
+int_head n g zero e = cc
+int_head n g (suc k) e = cc
+
+pub var_head : (v g k : ℕ) → Var v ≡ head_of g k → ⊥
+var_head v g zero e = cc
+var_head v g (suc k) e = cc
+
+pub var_term : (t : Tree ℕ) (v : ℕ) → cell_of t ≡ Var v → t ≡ variable v
+var_term (int n) v e = absurd (cc)
+var_term (node g xs) v e = absurd (var_head v g (count xs) (sym e))
+var_term (variable w) v e = ap variable (cc)
 
 -- a suffix reads too
 suffix : (cs : List Cell) (i : ℕ) (ts : Trees ℕ) → stack cs ≡ Some ts → (us : Trees ℕ) × (stack (drop i cs) ≡ Some us)
@@ -60,8 +80,14 @@ next cs i d h l =
     let r : stack (drop i cs) ≡ Some (from cs i) = (forest_from cs i h).reads in
     rw add-one (then-next (get_or cs i d) (stack (drop (suc i) cs)) (from cs i) (All-get_or IsLegalCell cs i d l h.legal) (sym (ap stack (drop-cons cs i d l)) ∙ r))
 
+-- a term that is there begins at a cell
+pub some_inside : (cs : List Cell) (i : ℕ) → 0 < count (from cs i) → i < length cs
+some_inside [] i h = absurd (omega (arith, h, ap (λ x. count (forest x)) (drop-nil i)))
+some_inside (c ∷ cs) zero h = omega arith
+some_inside (c ∷ cs) (suc i) h = omega (arith, some_inside cs i h)
+
 mutual
-  one_cell : (t : Tree ℕ) → 1 ≤ length (cells_of t)
+  pub one_cell : (t : Tree ℕ) → 1 ≤ length (cells_of t)
   one_cell (int n) = omega arith
   one_cell (node f ts) = omega arith
   one_cell (variable v) = omega arith

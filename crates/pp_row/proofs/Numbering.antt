@@ -5,25 +5,15 @@ use Rattle.std.specs.Prelude.{cond, ◌||◌, nat_eq}
 use Rattle.pp_algebra.specs.Terms.{Tree, variable, put, put_all, variables, variables_all}
 use Rattle.pp_algebra.specs.Rows.{Domain, IsCanonical, IsRow, IsWide, AreWide, domain_at}
 use Rattle.pp_algebra.specs.Canon.{has, place, firsts, canon}
-use Rattle.pp_algebra.proofs.CanonLemmas.{nat_eq-IsSame, has-all, canon-IsCanonical}
+use Rattle.pp_algebra.proofs.CanonLemmas.{nat_eq-IsSame, has-all, canon-IsCanonical, place-front, firsts-more}
 use Rattle.pp_algebra.proofs.Antisym.{put_all-agree}
 use Rattle.pp_row.specs.Columns.{trees_of, sets_of, pattern_by, row_by}
 use Rattle.pp_row.proofs.ColumnLists.{put-trees_of, variables-push}
+use Rattle.pp_algebra.proofs.WideLeast.{wide_at}
 
 module _ {V : Type 0} (same : V → V → Bool) where
-  pub place-front : (vs ws : List V) (v : V) → has same vs v ≡ true → place same (vs ++ ws) v ≡ place same vs v
-  place-front [] ws v h = absurd (cc)
-  place-front (x ∷ vs) ws v h = elim (same x v) as (λ b. (b || has same vs v) ≡ true → cond b 0 (suc (place same (vs ++ ws) v)) ≡ cond b 0 (suc (place same vs v))) [ true ↦ λ h. refl | false ↦ λ h. ap suc (place-front vs ws v h) ] h
-
-  firsts-more : (seen vs : List V) → (ws : List V) × (firsts same seen vs ≡ seen ++ ws)
-  firsts-more seen [] = ([], sym (append-nil seen))
-  firsts-more seen (v ∷ vs) = elim (has same seen v) as (λ b. (ws : List V) × (cond b (firsts same seen vs) (firsts same (seen ++ v ∷ []) vs) ≡ seen ++ ws)) [
-    | true ↦ firsts-more seen vs
-    | false ↦ (let r = firsts-more (seen ++ v ∷ []) vs in (v ∷ r.0, r.1 ∙ append_assoc seen (v ∷ []) r.0))
-  ]
-
   pub place_stays : (seen vs : List V) (v : V) → has same seen v ≡ true → place same (firsts same seen vs) v ≡ place same seen v
-  place_stays seen vs v h = let r = firsts-more seen vs in rw r.1 (place-front seen r.0 v h)
+  place_stays seen vs v h = let r = firsts-more same seen vs in rw r.1 (place-front same seen r.0 v h)
 
   pub firsts-append : (seen vs ws : List V) → firsts same seen (vs ++ ws) ≡ firsts same (firsts same seen vs) ws
   firsts-append seen [] ws = refl
@@ -66,11 +56,6 @@ columns_push ts out t u old new e f g h =
     let a : put_all (placed new) (trees_of ts) ≡ put_all (placed old) (trees_of ts) =
     put_all-agree (placed new) (placed old) (trees_of ts) (λ v i. ap variable (ap (λ ns. place nat_eq ns v) g ∙ place_stays nat_eq old (variables t) v (ap (λ ns. has nat_eq ns v) e ∙ has-all nat_eq nat_eq-IsSame [] (variables_all (trees_of ts)) v i))) in
     ap (λ us. us ++ u ∷ []) (f ∙ sym (trees_agree (placed new) (placed old) ts a)) ∙ ap (λ x. map (put (placed new)) ts ++ x ∷ []) h ∙ sym (map_push (put (placed new)) ts t)
-
-wide_at : (ds : List (Option Domain)) (v : ℕ) → AreWide ds → IsWide (domain_at ds v)
-wide_at [] v w = tt
-wide_at (d ∷ ds) zero w = All-head IsWide d ds w
-wide_at (d ∷ ds) (suc v) w = wide_at ds v (All-tail IsWide d ds w)
 
 are_wide : (ds : List (Option Domain)) (vs : List ℕ) → AreWide ds → AreWide (map (domain_at ds) vs)
 are_wide ds [] w = All-nil IsWide

@@ -5,7 +5,7 @@ use Rattle.pp_row.specs.declared.cell.Cell.{Cell}
 use Rattle.pp_row.specs.declared.cell.Cell.TheVariants.{Int, Atom, Compound, Var}
 use Rattle.pp_algebra.specs.Terms.{Tree, int, node, variable, Trees, none, more, count, join}
 use Rattle.pp_row.specs.Cells.{cells_of, cells_of_all, head_of, IsLegalCell, IsTerm}
-use Rattle.pp_row.specs.Reading.{split, step, stack, tree_of, only, IsOneTerm}
+use Rattle.pp_row.specs.Reading.{split, step, stack, all_of, tree_of, only, IsOneTerm, IsForest}
 use Rattle.pp_row.specs.Codes.{stack-cells_of}
 
 pub cells_of_all-join : (ts us : Trees ℕ) → cells_of_all (join ts us) ≡ cells_of_all ts ++ cells_of_all us
@@ -79,3 +79,14 @@ is_legal cs h = rw h.whole h.legal
 
 pub one_of : (t : Tree ℕ) (cs : List Cell) → IsTerm t → cells_of t ≡ cs → IsOneTerm cs
 one_of t cs l e = is_one cs (rw e at l) (counts_one t cs e)
+
+-- the cells of one term
+pub reads_one : (cs : List Cell) → IsOneTerm cs → stack cs ≡ Some (more (tree_of cs) none)
+reads_one cs h = ap stack (sym h.whole ∙ sym (append-nil (cells_of (tree_of cs)))) ∙ stack-cells_of (tree_of cs) [] none refl
+
+pub one_is_forest : (cs : List Cell) → IsOneTerm cs → IsForest cs
+one_is_forest cs h = record { legal = h.legal; reads = reads_one cs h ∙ ap (λ o. Some (all_of o)) (sym (reads_one cs h)) }
+
+-- terms with the same tree have the same cells
+pub same_terms : (cs ds : List Cell) → IsOneTerm cs → IsOneTerm ds → tree_of cs ≡ tree_of ds → cs ≡ ds
+same_terms cs ds h k e = sym h.whole ∙ ap (λ t. cells_of t) e ∙ k.whole

@@ -13,7 +13,7 @@ use Rattle.pp_row.proofs.Next.{forest_from, next}
 pub cells_from : (cs : List Cell) (i : ℕ) → IsForest cs → cells_of_all (from cs i) ≡ drop i cs
 cells_from cs i h = let f = forest_from cs i h in stack-is (drop i cs) (from cs i) f.legal f.reads
 
-cells_some : (ts : Trees ℕ) → ts ≡ more (first ts) (rest ts) → cells_of_all ts ≡ cells_of (first ts) ++ cells_of_all (rest ts)
+pub cells_some : (ts : Trees ℕ) → ts ≡ more (first ts) (rest ts) → cells_of_all ts ≡ cells_of (first ts) ++ cells_of_all (rest ts)
 cells_some none e = absurd (cc)
 cells_some (more t ts) e = refl
 

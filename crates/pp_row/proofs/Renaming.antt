@@ -16,6 +16,7 @@ use Rattle.pp_row.proofs.Numbering.{firsts-append, place_stays}
 use Rattle.pp_row.specs.Cells.{cells_of, cells_of_all, head_of, variables_in, variables_among, renamed, IsLegalCell}
 use Rattle.pp_row.specs.Reading.{tree_of, IsOneTerm}
 use Rattle.pp_row.specs.Codes.{tree_of-cells_of}
+use Rattle.pp_algebra.proofs.Put.{count-put_all}
 
 pub among-append : (cs ds : List Cell) → variables_among (cs ++ ds) ≡ variables_among cs ++ variables_among ds
 among-append [] ds = refl
@@ -31,13 +32,9 @@ mutual
   among-cells_of (node f ts) = among-head f (count ts) (cells_of_all ts) ∙ among-cells_of_all ts
   among-cells_of (variable v) = refl
 
-  among-cells_of_all : (ts : Trees ℕ) → variables_among (cells_of_all ts) ≡ variables_all ts
+  pub among-cells_of_all : (ts : Trees ℕ) → variables_among (cells_of_all ts) ≡ variables_all ts
   among-cells_of_all none = refl
   among-cells_of_all (more t ts) = among-append (cells_of t) (cells_of_all ts) ∙ rw (among-cells_of t, among-cells_of_all ts) refl
-
-count-put_all : (s : ℕ → Tree ℕ) (ts : Trees ℕ) → count (put_all s ts) ≡ count ts
-count-put_all s none = refl
-count-put_all s (more t ts) = ap suc (count-put_all s ts)
 
 module _ (f : ℕ → ℕ) where
   renamed-head : (g k : ℕ) → renamed f (head_of g k) ≡ head_of g k

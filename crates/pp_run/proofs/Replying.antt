@@ -22,7 +22,7 @@ use Rattle.pp_term.specs.declared.clause.Clause.{Clause}
 use Rattle.pp_term.specs.declared.query.Item.{Item}
 use Rattle.pp_term.specs.declared.query.Item.TheVariants.{Equate, Member, Infer}
 use Rattle.pp_term.specs.Meanings.{program}
-use Rattle.pp_read.specs.Meanings as reading
+use Rattle.pp_build.specs.Meanings as reading
 use Rattle.pp_read.specs.declared.program.Program.{Program}
 use Rattle.pp_read.specs.Programs.{written_of}
 use Rattle.pp_store.specs.Queries as stores

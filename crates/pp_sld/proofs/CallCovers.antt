@@ -16,6 +16,7 @@ use Rattle.pp_algebra.specs.Numbered.{variables_from, call}
 use Rattle.pp_sld.specs.Laws.{LeafRowCovers, CallCoversLeaves, LeavesHaveWidth}
 use Rattle.pp_sld.proofs.LeafRows.{EachLeaf, each-row, each-child}
 use Rattle.pp_sld.proofs.Covered.{columns_of, leads-covers, AllOf as AllOfConfig, NextOf, next-of}
+use Rattle.pp_algebra.proofs.Numbered.{from_numbered, count-from}
 
 pub columns-cover : (c : Config) → Covers (columns_of c) (pattern_of (leaf_row c))
 unfolding leaf_row
@@ -67,16 +68,9 @@ module _ (clauses : Program) where
     each_below (failed ts) c ws o h = let p : AllOfConfig c (h.0 ∷ h.1) = subst (AllOfConfig c) h.2 o in each_below ts c h.1 p.1 h.4
 
 -- the call is a canonical row of as many columns as variables
-numbered_from : (k n m : ℕ) → k + n ≡ m → IsNumbered k (variables_all (variables_from k n)) m
-numbered_from k zero m e = (omega (arith, e))
-numbered_from k (suc n) m e = inr (refl, numbered_from (suc k) n m (omega (arith, e)))
 
 pub call-IsCanonical : (face : Row) → IsCanonical (call face)
-call-IsCanonical face = numbered_from 0 (length face.domains) (length face.domains) (omega arith)
-
-count-from : (k n : ℕ) → count (variables_from k n) ≡ n
-count-from k zero = refl
-count-from k (suc n) = ap suc (count-from (suc k) n)
+call-IsCanonical face = from_numbered 0 (length face.domains) (length face.domains) (omega arith)
 
 -- the row of a configuration covers the leaves below it
 pub row_below : (c : Config) (r : Row) → IsBelow c r → RowCovers (leaf_row c) r

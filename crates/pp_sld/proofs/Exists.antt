@@ -11,8 +11,10 @@ use Rattle.pp_sld.specs.Ways.{Way, pattern_of_way, Leads, Goes, around, values_o
 use Rattle.pp_sld.specs.Trees.{Search, answer, loose, refused, passed, choice, Searches, no_more, child, failed, IsSearch, AreSearches}
 use Rattle.pp_algebra.specs.Covers.{MayGo}
 use Rattle.pp_algebra.specs.Solve.{Solvable}
-use Rattle.pp_algebra.proofs.Solved.{same_either, same_either-IsSame, solved_listed}
+use Rattle.pp_algebra.proofs.Solved.{same_either-IsSame, solved_listed}
 use Rattle.pp_algebra.proofs.Put.{count-put_all}
+use Rattle.pp_algebra.specs.Canon.{same_either}
+use Rattle.pp_algebra.specs.Examples.{row}
 
 pub put-with_goals : {V W : Type 0} (s : V → Tree W) (gs : List (Goal V)) (ts : Trees V) → put_all s (with_goals gs ts) ≡ with_goals (map (put_goal s) gs) (put_all s ts)
 put-with_goals s [] ts = refl
@@ -21,9 +23,6 @@ put-with_goals s (g ∷ gs) ts = rw (put-with_goals s gs ts) refl
 pub shapes-put : {V W : Type 0} (s : V → Tree W) (gs : List (Goal V)) → shapes (map (put_goal s) gs) ≡ shapes gs
 shapes-put s [] = refl
 shapes-put s (g ∷ gs) = ap (λ x. g.shape ∷ x) (shapes-put s gs)
-
-abbrev pub row : Trees ℕ → List (Option Domain) → Row
-row ts ds = record { columns = ts; domains = ds }
 
 -- the configuration that a solution is
 abbrev pub reached : (w : Way) (r : Row) → IsSolved (pattern_of_way w) w.items r → Config

@@ -19,6 +19,7 @@ use Rattle.pp_sld.proofs.LeafRows.{answer_rows-append, loose_rows-append, each-a
 use Rattle.pp_sld.proofs.CallCovers.{leaf_row_covers}
 use Rattle.pp_sld.proofs.Verdicts.{finding_join}
 use Rattle.pp_sld.proofs.Joining.{covers-two, right-covered, through, sole-under}
+use Rattle.pp_algebra.specs.Numbered.{no_columns}
 
 pub under-left : (c : Row) (xs ys : List Leaf) → LeavesUnder c (xs ++ ys) → LeavesUnder c xs
 under-left c xs ys h x i = h x (IsIn-left x xs ys i)
@@ -74,9 +75,6 @@ leaves_join m c xs ys h =
     (rows-both c B D (answers-under c ys hy) (loose-under c ys hy)))))
 
 -- ===== a finding that fits is that of some rows
-
-abbrev no_columns : Row
-no_columns = record { columns = none; domains = [] }
 
 abbrev one_column : Row
 one_column = record { columns = more (int (pos 0)) none; domains = [] }

@@ -16,6 +16,7 @@ use Rattle.pp_sld.proofs.Verdicts.{sole-two, cases, one-same, one-differ, sole-a
 use Rattle.pp_sld.specs.Findings.{Sole, no_row, two_rows, one_row, Finding, finds_most, finds_unique, finds_consistent, join_sole, finding, empty, join_option, join_finding, outcome, settled}
 use Rattle.pp_sld.specs.LawsOfFindings.{EmptyIsUnit}
 use Rattle.pp_sld.specs.Lattice.{IsUnder, UnderIfSome, CoversIfSome, UnderIfOne, Fits}
+use Rattle.std.proofs.Math.Bool.{or_comm, or_assoc}
 
 -- options
 option-again : (call : Row) (o : Option Row) → UnderIfSome call o → join_option o o ≡ o
@@ -108,16 +109,6 @@ or-again : (b : Bool) → (b || b) ≡ b
 or-again true = refl
 or-again false = refl
 
-or-turned : (b c : Bool) → (b || c) ≡ (c || b)
-or-turned true true = refl
-or-turned true false = refl
-or-turned false true = refl
-or-turned false false = refl
-
-or-grouped : (b c d : Bool) → ((b || c) || d) ≡ (b || (c || d))
-or-grouped true c d = refl
-or-grouped false c d = refl
-
 two : {A B C : Type 0} (f : A → B → C) (a b : A) (c d : B) → a ≡ b → c ≡ d → f a c ≡ f b d
 two f a b c d e k = ap (λ x. f x c) e ∙ ap (f b) k
 
@@ -150,12 +141,12 @@ join-turned most call (finds_most g h) (finds_unique s b) f e = absurd e
 join-turned most call (finds_most g h) (finds_consistent c d) f e = absurd e
 join-turned most call (finds_unique s b) y f e = absurd f
 join-turned most call (finds_consistent c d) y f e = absurd f
-join-turned unique call (finds_unique s b) (finds_unique t c) f e = two finds_unique (join_sole s t) (join_sole t s) (b || c) (c || b) (sole-turned s t) (or-turned b c)
+join-turned unique call (finds_unique s b) (finds_unique t c) f e = two finds_unique (join_sole s t) (join_sole t s) (b || c) (c || b) (sole-turned s t) (or_comm b c)
 join-turned unique call (finds_unique s b) (finds_most k l) f e = absurd e
 join-turned unique call (finds_unique s b) (finds_consistent c d) f e = absurd e
 join-turned unique call (finds_most g h) y f e = absurd f
 join-turned unique call (finds_consistent c d) y f e = absurd f
-join-turned consistent call (finds_consistent a b) (finds_consistent c d) f e = two finds_consistent (a || c) (c || a) (b || d) (d || b) (or-turned a c) (or-turned b d)
+join-turned consistent call (finds_consistent a b) (finds_consistent c d) f e = two finds_consistent (a || c) (c || a) (b || d) (d || b) (or_comm a c) (or_comm b d)
 join-turned consistent call (finds_consistent a b) (finds_most k l) f e = absurd e
 join-turned consistent call (finds_consistent a b) (finds_unique t c) f e = absurd e
 join-turned consistent call (finds_most g h) y f e = absurd f
@@ -170,14 +161,14 @@ join-grouped most call (finds_most g h) (finds_unique s b) z f e i = absurd e
 join-grouped most call (finds_most g h) (finds_consistent c d) z f e i = absurd e
 join-grouped most call (finds_unique s b) y z f e i = absurd f
 join-grouped most call (finds_consistent c d) y z f e i = absurd f
-join-grouped unique call (finds_unique s b) (finds_unique t c) (finds_unique u d) f e i = two finds_unique (join_sole (join_sole s t) u) (join_sole s (join_sole t u)) ((b || c) || d) (b || (c || d)) (sole-assoc s t u) (or-grouped b c d)
+join-grouped unique call (finds_unique s b) (finds_unique t c) (finds_unique u d) f e i = two finds_unique (join_sole (join_sole s t) u) (join_sole s (join_sole t u)) ((b || c) || d) (b || (c || d)) (sole-assoc s t u) (or_assoc b c d)
 join-grouped unique call (finds_unique s b) (finds_unique t c) (finds_most k l) f e i = absurd i
 join-grouped unique call (finds_unique s b) (finds_unique t c) (finds_consistent k l) f e i = absurd i
 join-grouped unique call (finds_unique s b) (finds_most k l) z f e i = absurd e
 join-grouped unique call (finds_unique s b) (finds_consistent c d) z f e i = absurd e
 join-grouped unique call (finds_most g h) y z f e i = absurd f
 join-grouped unique call (finds_consistent c d) y z f e i = absurd f
-join-grouped consistent call (finds_consistent a b) (finds_consistent c d) (finds_consistent g h) f e i = two finds_consistent ((a || c) || g) (a || (c || g)) ((b || d) || h) (b || (d || h)) (or-grouped a c g) (or-grouped b d h)
+join-grouped consistent call (finds_consistent a b) (finds_consistent c d) (finds_consistent g h) f e i = two finds_consistent ((a || c) || g) (a || (c || g)) ((b || d) || h) (b || (d || h)) (or_assoc a c g) (or_assoc b d h)
 join-grouped consistent call (finds_consistent a b) (finds_consistent c d) (finds_most k l) f e i = absurd i
 join-grouped consistent call (finds_consistent a b) (finds_consistent c d) (finds_unique s t) f e i = absurd i
 join-grouped consistent call (finds_consistent a b) (finds_most k l) z f e i = absurd e

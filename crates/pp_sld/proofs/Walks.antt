@@ -34,7 +34,7 @@ until_begins settled seen (ends l ∷ ms) = pick (settled (seen ++ ends l ∷ []
     pick true e h = (ms, append_assoc seen (ends l ∷ []) ms, inr e)
     pick false e h = subst (IsBeginning settled (until settled (seen ++ ends l ∷ []) ms)) (append_assoc seen (ends l ∷ []) ms) h
 
-reductions-append : (ms ns : List Mark) → reductions (ms ++ ns) ≡ reductions ms + reductions ns
+pub reductions-append : (ms ns : List Mark) → reductions (ms ++ ns) ≡ reductions ms + reductions ns
 reductions-append [] ns = omega arith
 reductions-append (tried ∷ ms) ns = omega (arith, reductions-append ms ns)
 reductions-append (ends l ∷ ms) ns = reductions-append ms ns

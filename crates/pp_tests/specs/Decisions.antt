@@ -1,5 +1,4 @@
 -- What the plain values of built-ins stand for in the definitions of search.
-use Rattle.std.specs.Prelude.{ℕ, ℤ}
 use Rattle.pp_sld.specs.BuiltIns as builtins
 use Rattle.pp_tests.specs.declared.built_in.Test.{Test}
 use Rattle.pp_tests.specs.declared.built_in.Test.TheVariants.{Less, AtMost, Equal, Differ, Plus, Times, Indomain}

@@ -37,9 +37,11 @@ use Rattle.pp_unify.proofs.Heaps.{variable_cell}
 use Rattle.pp_unify.proofs.Among.{IsBelow, comes_from, put_below, variable_below, made_among}
 use Rattle.pp_heap.proofs.Binding.{IsBinding, binding_later, binding_solution}
 use Rattle.pp_heap.proofs.Setting.{slot_set}
-use Rattle.pp_unify.proofs.Adding.{firsts-from, map-agree, variables-join, put-join, from-push, from-below, values_below, more_slot}
+use Rattle.pp_unify.proofs.Adding.{firsts-from, map-agree, from-push, values_below, more_slot}
 use Rattle.pp_unify.proofs.Present.{number, value_now, has_name}
 use Rattle.pp_unify.proofs.Verdicts.{row_of}
+use Rattle.pp_algebra.proofs.Numbered.{from-below}
+use Rattle.pp_algebra.proofs.Joined.{variables_all-join, put_all-join}
 
 -- the variables of a value have slots
 value_below : (st : Store) (c : Value) → IsLinked st → IsNow st c → IsBelow (length st.slots) (value_term st.heap c)
@@ -148,9 +150,9 @@ canon_more : (ts : Trees ℕ) (u : Tree ℕ) (D E : Domains ℕ) → ((w : ℕ) 
 canon_more ts u D E seen same =
     let vs = firsts nat_eq [] (variables_all ts) in
     let names : firsts nat_eq [] (variables_all (join ts (more u none))) ≡ vs =
-    ap (firsts nat_eq []) (variables-join ts (more u none)) ∙ firsts-append nat_eq [] (variables_all ts) (variables u ++ []) ∙ firsts_old vs (variables u ++ []) (λ w i. seen w (subst (IsIn w) (append-nil (variables u)) i)) in
+    ap (firsts nat_eq []) (variables_all-join ts (more u none)) ∙ firsts-append nat_eq [] (variables_all ts) (variables u ++ []) ∙ firsts_old vs (variables u ++ []) (λ w i. seen w (subst (IsIn w) (append-nil (variables u)) i)) in
     ap (λ ns. record { columns = put_all (λ v. variable (place nat_eq ns v)) (join ts (more u none)); domains = map E ns }) names
-    ∙ rw (put-join (λ v. variable (place nat_eq vs v)) ts (more u none), map-agree E D vs (λ w i. same w (firsts-from (variables_all ts) w i))) refl
+    ∙ rw (put_all-join (λ v. variable (place nat_eq vs v)) ts (more u none), map-agree E D vs (λ w i. same w (firsts-from (variables_all ts) w i))) refl
 
 pub added_as_row : (old new : State) (c : Value) → IsGood old → IsNow (store_of old) c → IsAddedAs old new c → row_of new ≡ with_value (row_of old) (put (number (entries_of old) (store_of old)) (put (solution old) (value_term old.heap.items c)))
 unfolding solution

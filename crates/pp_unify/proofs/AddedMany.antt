@@ -20,7 +20,8 @@ use Rattle.pp_heap.proofs.Changes.{below_or, at_past}
 use Rattle.pp_heap.proofs.Made.{made_free}
 use Rattle.pp_unify.proofs.Among.{made_among, comes_from_all, variable_below}
 use Rattle.pp_unify.proofs.Verdicts.{row_of}
-use Rattle.pp_unify.proofs.Adding.{canon_added, from-push, from-below, map-agree}
+use Rattle.pp_unify.proofs.Adding.{canon_added, from-push, map-agree}
+use Rattle.pp_algebra.proofs.Numbered.{from-below}
 
 -- a slot that is free says what no slot says
 pub free_slots_more : (ss : List Slot) (k v : ℕ) → slot_at (ss ++ replicate k (slots.Free None)) v ≡ slot_at ss v

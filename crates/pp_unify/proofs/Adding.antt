@@ -1,21 +1,21 @@
 -- The row with one variable more.
-use Rattle.std.proofs.Common.{◌≡◌, ℕ, ℤ, zero, suc, ◌+◌, ◌<◌, true, false, List, [], ◌∷◌, ◌++◌, length, map, Option, Some, None, refl, ap, sym, ◌∙◌, ◌⊎◌, inl, inr, arith, length-append, append_assoc}
+use Rattle.std.proofs.Common.{◌≡◌, ℕ, ℤ, zero, suc, ◌+◌, ◌<◌, true, false, List, [], ◌∷◌, ◌++◌, length, map, Option, Some, None, refl, ap, sym, ◌∙◌, ◌⊎◌, inl, inr, arith, length-append}
 use Rattle.std.specs.Prelude.{cond, nat_eq}
 use Rattle.std.proofs.lemmas.List.{map-append, get_or_append_left}
 use Rattle.std.proofs.Math.Seq.{get_or-append_seam}
 use Rattle.std.proofs.Math.ListN.{length-map}
-use Rattle.pp_algebra.specs.Terms.{Tree, variable, Trees, none, more, put, put_all, variables, variables_all, join}
+use Rattle.pp_algebra.specs.Terms.{Tree, variable, Trees, none, more, put_all, variables, variables_all, join}
 use Rattle.pp_algebra.specs.Rows.{Domain, Domains}
 use Rattle.pp_algebra.specs.Covers.{IsIn}
 use Rattle.pp_algebra.specs.Canon.{has, place, firsts, canon}
 use Rattle.pp_algebra.proofs.Antisym.{put_all-agree, IsIn-either}
 use Rattle.pp_algebra.proofs.Bools.{nat_same}
-use Rattle.pp_algebra.proofs.CanonLemmas.{nat_eq-IsSame, has-all}
+use Rattle.pp_algebra.proofs.CanonLemmas.{nat_eq-IsSame, has-all, place-front}
 use Rattle.pp_algebra.proofs.OneCanon.{not_has}
 use Rattle.pp_algebra.specs.Numbered.{variables_from}
 use Rattle.pp_domain.specs.Sets.{set_of}
 use Rattle.pp_row.proofs.Keys.{place_new, firsts_new}
-use Rattle.pp_row.proofs.Numbering.{place-front, firsts-append}
+use Rattle.pp_row.proofs.Numbering.{firsts-append}
 use Rattle.pp_heap.specs.declared.state.Slot.{Slot}
 use Rattle.pp_heap.specs.declared.state.Slot.TheVariants as slots
 use Rattle.pp_heap.specs.declared.state.State.{State}
@@ -27,6 +27,8 @@ use Rattle.pp_unify.specs.States.{with_new}
 use Rattle.pp_heap.proofs.Made.{made_free}
 use Rattle.pp_unify.proofs.Among.{made_among, comes_from_all}
 use Rattle.pp_unify.proofs.Verdicts.{row_of}
+use Rattle.pp_algebra.proofs.Joined.{variables_all-join, put_all-join}
+use Rattle.pp_algebra.proofs.Numbered.{from-below}
 
 pub firsts-in : (seen vs : List ℕ) (w : ℕ) → IsIn w (firsts nat_eq seen vs) → IsIn w seen ⊎ IsIn w vs
 firsts-in seen [] w i = inl i
@@ -59,26 +61,18 @@ pub map-agree : (f g : Domains ℕ) (vs : List ℕ) → ((w : ℕ) → IsIn w vs
 map-agree f g [] h = refl
 map-agree f g (v ∷ vs) h = rw (h v (inl refl), map-agree f g vs (λ w i. h w (inr i))) refl
 
-pub variables-join : (ts us : Trees ℕ) → variables_all (join ts us) ≡ variables_all ts ++ variables_all us
-variables-join none us = refl
-variables-join (more t ts) us = rw (variables-join ts us) (sym (append_assoc (variables t) (variables_all ts) (variables_all us)))
-
-pub put-join : (s : ℕ → Tree ℕ) (ts us : Trees ℕ) → put_all s (join ts us) ≡ join (put_all s ts) (put_all s us)
-put-join s none us = refl
-put-join s (more t ts) us = ap (more (put s t)) (put-join s ts us)
-
 -- a variable that stands nowhere yet gets the next number
 pub canon_added : (ts : Trees ℕ) (n : ℕ) (D E : Domains ℕ) (d : Option Domain) → ((w : ℕ) → IsIn w (variables_all ts) → w < n) → ((w : ℕ) → w < n → E w ≡ D w) → E n ≡ d → canon nat_eq (record { columns = join ts (more (variable n) none); domains = E }) ≡ with_new (canon nat_eq (record { columns = ts; domains = D })) d
 canon_added ts n D E d below same last =
     let vs = firsts nat_eq [] (variables_all ts) in
     let new : has nat_eq vs n ≡ false = not_has nat_eq nat_eq-IsSame vs n (λ w i e. let l = below w (firsts-from (variables_all ts) w i) in absurd (omega (arith, l, e))) in
     let names : firsts nat_eq [] (variables_all (join ts (more (variable n) none))) ≡ vs ++ n ∷ [] =
-    ap (firsts nat_eq []) (variables-join ts (more (variable n) none)) ∙ firsts-append nat_eq [] (variables_all ts) (n ∷ []) ∙ firsts_new nat_eq vs n new in
+    ap (firsts nat_eq []) (variables_all-join ts (more (variable n) none)) ∙ firsts-append nat_eq [] (variables_all ts) (n ∷ []) ∙ firsts_new nat_eq vs n new in
     let kept : put_all (λ v. variable (place nat_eq (vs ++ n ∷ []) v)) ts ≡ put_all (λ v. variable (place nat_eq vs v)) ts =
     put_all-agree (λ v. variable (place nat_eq (vs ++ n ∷ []) v)) (λ v. variable (place nat_eq vs v)) ts (λ w i. ap variable (place-front nat_eq vs (n ∷ []) w (has-all nat_eq nat_eq-IsSame [] (variables_all ts) w i))) in
     let number : place nat_eq (vs ++ n ∷ []) n ≡ length (map D vs) = place_new nat_eq vs n (nat_same n) new ∙ sym (length-map vs D) in
     let columns : put_all (λ v. variable (place nat_eq (vs ++ n ∷ []) v)) (join ts (more (variable n) none)) ≡ join (put_all (λ v. variable (place nat_eq vs v)) ts) (more (variable (length (map D vs))) none) =
-    put-join (λ v. variable (place nat_eq (vs ++ n ∷ []) v)) ts (more (variable n) none) ∙ rw (kept, number) refl in
+    put_all-join (λ v. variable (place nat_eq (vs ++ n ∷ []) v)) ts (more (variable n) none) ∙ rw (kept, number) refl in
     let domains : map E (vs ++ n ∷ []) ≡ map D vs ++ d ∷ [] =
     map-append E vs (n ∷ []) ∙ rw (map-agree E D vs (λ w i. same w (below w (firsts-from (variables_all ts) w i))), last) refl in
     ap (λ ns. record { columns = put_all (λ v. variable (place nat_eq ns v)) (join ts (more (variable n) none)); domains = map E ns }) names
@@ -87,11 +81,6 @@ canon_added ts n D E d below same last =
 pub from-push : (f : ℕ → Tree ℕ) (a n : ℕ) → put_all f (variables_from a (suc n)) ≡ join (put_all f (variables_from a n)) (more (f (a + n)) none)
 from-push f a zero = ap (λ v. more (f v) none) (omega arith)
 from-push f a (suc n) = ap (more (f a)) (from-push f (suc a) n ∙ ap (λ v. join (put_all f (variables_from (suc a) n)) (more (f v) none)) (omega arith))
-
-pub from-below : (a n v : ℕ) → IsIn v (variables_all (variables_from a n)) → v < a + n
-from-below a zero v i = absurd i
-from-below a (suc n) v (inl e) = omega (arith, e)
-from-below a (suc n) v (inr i) = let h = from-below (suc a) n v i in omega (arith, h)
 
 -- the variables of the columns have slots
 pub values_below : (s : State) (w : ℕ) → IsGood s → IsIn w (variables_all (put_all (made (entries_of s) (store_of s)) (variables_from 0 (length s.slots.items)))) → w < length s.slots.items

@@ -14,10 +14,10 @@ use Rattle.pp_algebra.proofs.Order.{IsIn-left, IsIn-right}
 use Rattle.pp_algebra.proofs.Put.{put-variable}
 use Rattle.pp_row.specs.declared.cell.Cell.{Cell}
 use Rattle.pp_row.specs.declared.cell.Cell.TheVariants as cells
-use Rattle.pp_row.specs.Cells.{cells_of, cells_of_all, variables_among}
+use Rattle.pp_row.specs.Cells.{variables_among}
 use Rattle.pp_row.specs.Reading.{IsForest, forest}
 use Rattle.pp_row.proofs.Piece.{cells_from}
-use Rattle.pp_row.proofs.Renaming.{among-append, among-cells_of}
+use Rattle.pp_row.proofs.Renaming.{among-cells_of_all}
 use Rattle.pp_heap.specs.declared.state.Slot.{Slot}
 use Rattle.pp_heap.specs.declared.state.Slot.TheVariants.{Free, Alias, Int, Atom, Compound}
 use Rattle.pp_heap.specs.declared.state.Entry.{Entry}
@@ -45,13 +45,9 @@ use Rattle.pp_unify.proofs.Turns.{solved_in_turn}
 use Rattle.pp_unify.proofs.AddedMany.{free_slots_more, row_many_at}
 use Rattle.pp_unify.proofs.Verdicts.{row_of, count_present}
 
-pub among_all : (ts : Trees ℕ) → variables_among (cells_of_all ts) ≡ variables_all ts
-among_all none = refl
-among_all (more t ts) = among-append (cells_of t) (cells_of_all ts) ∙ rw (among-cells_of t, among_all ts) refl
-
 -- a variable's cell is a variable of the terms
 pub in_forest : (cs : List Cell) (p v : ℕ) → IsForest cs → cell_at cs p ≡ cells.Var v → IsIn v (variables_all (forest cs))
-in_forest cs p v f e = subst (IsIn v) (ap variables_among (sym (cells_from cs 0 f)) ∙ among_all (forest cs)) (cell_in cs p v e)
+in_forest cs p v f e = subst (IsIn v) (ap variables_among (sym (cells_from cs 0 f)) ∙ among-cells_of_all (forest cs)) (cell_in cs p v e)
 
 mutual
   in_counted : (n : ℕ) (t : Tree ℕ) (v : ℕ) → IsIn v (variables t) → IsIn (n + v) (variables (counted_from n t))

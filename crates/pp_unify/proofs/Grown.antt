@@ -1,10 +1,10 @@
 -- Terms from outside on the heap.
-use Rattle.std.proofs.Common.{◌≡◌, ℕ, zero, suc, ◌+◌, ◌<◌, ◌≤◌, List, [], ◌∷◌, ◌++◌, length, pos, All, Some, refl, ap, sym, ◌∙◌, subst, inl, arith, append-nil, length-append}
+use Rattle.std.proofs.Common.{◌≡◌, ℕ, zero, suc, ◌+◌, ◌<◌, List, [], ◌∷◌, ◌++◌, length, pos, All, Some, refl, ap, sym, ◌∙◌, subst, inl, arith, append-nil, length-append}
 use Rattle.std.proofs.Math.Seq.{drop-append_seam}
 use Rattle.std.proofs.lemmas.List.{get_or-append-add}
 use Rattle.pp_row.specs.declared.cell.Cell.{Cell}
 use Rattle.pp_row.specs.declared.cell.Cell.TheVariants.{Int, Compound, Var}
-use Rattle.pp_algebra.specs.Terms.{Tree, int, node, variable, none, more}
+use Rattle.pp_algebra.specs.Terms.{Tree, variable, none, more}
 use Rattle.pp_algebra.specs.Covers.{IsIn}
 use Rattle.pp_algebra.specs.Least.{first}
 use Rattle.pp_algebra.proofs.Antisym.{put-agree}
@@ -12,7 +12,7 @@ use Rattle.pp_algebra.proofs.Put.{put-variable}
 use Rattle.pp_algebra.proofs.Order.{IsIn-left, IsIn-right}
 use Rattle.pp_row.specs.Cells.{cells_of, variables_in, IsTerm, IsLegalCell, renamed}
 use Rattle.pp_row.specs.Codes.{stack-cells_of, tree_of-cells_of}
-use Rattle.pp_row.specs.Reading.{stack, all_of, IsForest}
+use Rattle.pp_row.specs.Reading.{stack, all_of}
 use Rattle.pp_row.proofs.Renaming.{among-cells_of, renamed-cells_of, renamed_term}
 use Rattle.pp_row.specs.Cells.{variables_among}
 use Rattle.pp_heap.specs.declared.state.Slot.{Slot}
@@ -20,13 +20,11 @@ use Rattle.pp_heap.specs.Values.{cell_at, term_at, shifted}
 use Rattle.pp_heap.specs.Soundness.{IsCompound}
 use Rattle.pp_algebra.specs.Numbered.{counted_from}
 use Rattle.pp_unify.specs.Tops.{IsAmong}
+use Rattle.pp_row.proofs.Next.{one_cell}
 
 -- the cells of one term
 pub reads_one : (t : Tree ℕ) → stack (cells_of t) ≡ Some (more t none)
 reads_one t = ap stack (sym (append-nil (cells_of t))) ∙ stack-cells_of t [] none refl
-
-pub forest_cells : (t : Tree ℕ) (cs : List Cell) → cs ≡ cells_of t → IsTerm t → IsForest cs
-forest_cells t cs e h = subst IsForest (sym e) (record { legal = h; reads = reads_one t ∙ sym (ap (λ o. Some (all_of o)) (reads_one t)) })
 
 -- the cells of the term whose variables are counted from a first number
 pub shifted_cells : (first : ℕ) (t : Tree ℕ) (cs : List Cell) → cs ≡ cells_of t → shifted first cs ≡ cells_of (counted_from first t)
@@ -62,10 +60,5 @@ cells_among slots t cs e h p v f = h v (subst (IsIn v) (among-cells_of t) (cell_
 pub last_term : (heap cs : List Cell) (t : Tree ℕ) (at : ℕ) → cs ≡ cells_of t → at ≡ length heap → term_at (heap ++ cs) at ≡ t
 last_term heap cs t at e f = rw (e, f, drop-append_seam heap (cells_of t)) (ap (λ o. first (all_of o)) (reads_one t))
 
-some_cells : (t : Tree ℕ) → 1 ≤ length (cells_of t)
-some_cells (int n) = omega arith
-some_cells (node f ts) = omega arith
-some_cells (variable v) = omega arith
-
 pub last_within : (heap cs : List Cell) (t : Tree ℕ) (at : ℕ) → cs ≡ cells_of t → at ≡ length heap → at < length (heap ++ cs)
-last_within heap cs t at e f = omega (arith, length-append heap cs, ap length e, some_cells t, f)
+last_within heap cs t at e f = omega (arith, length-append heap cs, ap length e, one_cell t, f)

@@ -3,7 +3,6 @@ use Rattle.std.proofs.Common.{◌≡◌, ℕ, zero, suc, ◌+◌, ◌<◌, ◌�
 use Rattle.std.specs.Prelude.{◌↔◌}
 use Rattle.std.proofs.lemmas.List.{drop-append-le, get_or-drop, get_or-append-add}
 use Rattle.std.proofs.lemmas.List.Elements.{All-drop, All-take}
-use Rattle.std.proofs.Math.ListN.{drop_of_length-le}
 use Rattle.pp_row.specs.declared.cell.Cell.{Cell}
 use Rattle.pp_row.specs.declared.cell.Cell.TheVariants as cells
 use Rattle.pp_row.specs.Cells.{arity_of, head_of, cells_of, IsLegalCell, renamed}
@@ -27,7 +26,7 @@ use Rattle.pp_algebra.specs.Covers.{IsIn}
 use Rattle.pp_algebra.specs.Terms.{variables}
 use Rattle.pp_unify.proofs.Among.{comes_from}
 use Rattle.pp_unify.proofs.Heaps.{variable_cell}
-use Rattle.pp_unify.proofs.Grown.{shifted_cells, counted_term, forest_cells, reads_one}
+use Rattle.pp_unify.proofs.Grown.{shifted_cells, counted_term}
 use Rattle.pp_heap.specs.Stores.{store_of}
 use Rattle.pp_heap.specs.Agreement.{Agrees, Excludes}
 use Rattle.pp_heap.specs.Soundness.{IsCompound, IsGood}
@@ -39,9 +38,9 @@ use Rattle.pp_unify.specs.Heads.{IsVariable, IsHead, IsPiece, IsStepped, IsTurne
 use Rattle.pp_unify.specs.Joining.{AreBelow}
 use Rattle.pp_unify.proofs.Widths.{wider_itself}
 use Rattle.pp_heap.proofs.Forests.{term_cell, stack_append}
-use Rattle.pp_heap.proofs.Changes.{below_or}
 use Rattle.pp_heap.proofs.Growing.{empty_forest}
 use Rattle.pp_unify.proofs.PairSteps.{named, more_equal}
+use Rattle.pp_row.proofs.InStep.{is_forest}
 
 pub counted_put : (s : ℕ → Tree ℕ) (n : ℕ) (t : Tree ℕ) → put s (counted_from n t) ≡ put (counted n s) t
 counted_put s n t = put-put s (λ v. variable (n + v)) t
@@ -61,15 +60,6 @@ pub leaf_next : (head : List Cell) (at : ℕ) → IsForest head → at < length 
 leaf_next head at f l h =
     let x = next head at (cells.Int (pos 0)) f l in
     x.inner ∙ ap (λ ts. join ts (rest (from head at))) (no_trees (arguments (term_at head at)) (x.arity ∙ leaf_arity (cell_at head at) h))
-
--- there are terms only within the cells
-pub some_within : (head : List Cell) (at : ℕ) → 0 < count (from head at) → at < length head
-some_within head at h = elim (below_or at (length head)) [
-  | inl l ↦ l
-  | inr l ↦ (
-      let e : count (from head at) ≡ 0 = ap (λ ds. count (forest ds)) (drop_of_length-le head l) in
-      absurd (omega (arith, h, e)))
-]
 
 -- more cells on the heap change no span
 module _ (heap cs : List Cell) (f : IsForest heap) (g : IsForest cs) where
@@ -267,7 +257,7 @@ module _ (head : List Cell) (at end n : ℕ) (h : IsForest head) (l : at < lengt
     cut_shifted = shifted_cells n (term_at head at) cut cut_cells
 
     pub cut_forest : IsForest (shifted n cut)
-    cut_forest = forest_cells (counted_from n (term_at head at)) (shifted n cut) cut_shifted (counted_term n (term_at head at) (subst (All IsLegalCell) cut_cells (All-take IsLegalCell (end - at) (drop at head) (All-drop IsLegalCell at head h.legal))))
+    cut_forest = is_forest (counted_from n (term_at head at)) (shifted n cut) cut_shifted (counted_term n (term_at head at) (subst (All IsLegalCell) cut_cells (All-take IsLegalCell (end - at) (drop at head) (All-drop IsLegalCell at head h.legal))))
 
     -- its variables are those of the head
     pub cut_below : (k : ℕ) → AreBelow k n head → AreBelow k n cut
@@ -290,9 +280,6 @@ cut_compound heap head at end n p l h e =
     go : (cs : List Cell) (m : ℕ) → IsCompound (cell_at cs 0) → IsCompound (cell_at (shifted n (take (suc m) cs)) 0)
     go [] m h = absurd h
     go (c ∷ cs) m h = stays c h
-
-pub whole_head : (t : Tree ℕ) (cs : List Cell) → cs ≡ cells_of t → from cs 0 ≡ more t none
-whole_head t cs e = rw e (ap (λ o. all_of o) (reads_one t))
 
 pub shifted_below : (k n : ℕ) (cs : List Cell) → AreBelow k n cs → (p v : ℕ) → cell_at (shifted n cs) p ≡ cells.Var v → v < k
 shifted_below k n [] b p v e = absurd (cc)

@@ -3,15 +3,15 @@ use Rattle.std.proofs.Common.{◌≡◌, ℕ, zero, suc, ◌+◌, ◌<◌, pos, 
 use Rattle.std.proofs.lemmas.List.{get_or-drop}
 use Rattle.pp_row.specs.declared.cell.Cell.{Cell}
 use Rattle.pp_row.specs.declared.cell.Cell.TheVariants.{Int, Atom, Compound, Var}
-use Rattle.pp_algebra.specs.Terms.{Tree, int, node, variable, Trees, none, more, put, put_all, variables}
+use Rattle.pp_algebra.specs.Terms.{Tree, int, node, variable, Trees, put, put_all, variables}
 use Rattle.pp_algebra.specs.Covers.{IsIn}
-use Rattle.pp_algebra.specs.Least.{first, rest}
+use Rattle.pp_algebra.specs.Least.{rest}
 use Rattle.pp_algebra.proofs.Antisym.{IsIn-either}
 use Rattle.pp_algebra.proofs.Order.{IsIn-left}
 use Rattle.pp_row.specs.Cells.{cells_of, cells_of_all, variables_in}
 use Rattle.pp_row.specs.Reading.{IsForest, from}
 use Rattle.pp_row.proofs.Next.{next, cell_of}
-use Rattle.pp_row.proofs.Piece.{cells_from}
+use Rattle.pp_row.proofs.Piece.{cells_from, cells_some}
 use Rattle.pp_row.proofs.Renaming.{among-append, among-cells_of}
 use Rattle.pp_row.specs.Cells.{variables_among}
 use Rattle.pp_heap.specs.Values.{cell_at, term_at}
@@ -30,10 +30,6 @@ cell_among (c ∷ cs) w i = elim (IsIn-either w (variables_in c) (variables_amon
   | inl j ↦ (zero, is_var c w j)
   | inr j ↦ (let r = cell_among cs w j in (suc r.0, r.1))
 ]
-
-cells_some : (ts : Trees ℕ) → ts ≡ more (first ts) (rest ts) → cells_of_all ts ≡ cells_of (first ts) ++ cells_of_all (rest ts)
-cells_some none e = absurd (cc)
-cells_some (more t ts) e = refl
 
 pub variable_cell : (heap : List Cell) (p w : ℕ) → IsForest heap → p < length heap → IsIn w (variables (term_at heap p)) → (q : ℕ) × (cell_at heap q ≡ Var w)
 variable_cell heap p w f l i =

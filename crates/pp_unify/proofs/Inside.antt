@@ -15,10 +15,11 @@ use Rattle.pp_heap.specs.Soundness.{IsCompound}
 use Rattle.pp_heap.specs.Spans.{span_terms, sizes}
 use Rattle.pp_unify.specs.Pairs.{left_span, right_span, IsPair, Opens}
 use Rattle.pp_heap.proofs.Forests.{term_cell}
-use Rattle.pp_heap.proofs.Walk.{put_all-join, sizes-join, opened_at}
+use Rattle.pp_heap.proofs.Walk.{sizes-join, opened_at}
 use Rattle.pp_heap.proofs.Work.{inside_span, inside_terms}
 use Rattle.pp_unify.proofs.Pairs.{equal_push, sizes_push}
 use Rattle.pp_unify.proofs.PairSteps.{arguments_equal, head_of_span, more_equal}
+use Rattle.pp_algebra.proofs.Joined.{put_all-join}
 
 join_equal : (gs hs ts us : Trees ℕ) → count gs ≡ count hs → (join gs ts ≡ join hs us) ↔ ((ts ≡ us) × (gs ≡ hs))
 join_equal none none ts us e = ((λ h. (h, refl)), λ h. h.0)

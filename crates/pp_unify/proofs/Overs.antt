@@ -8,7 +8,7 @@ use Rattle.pp_algebra.proofs.Antisym.{IsIn-either}
 use Rattle.pp_row.specs.declared.cell.Cell.{Cell}
 use Rattle.pp_row.specs.declared.cell.Cell.TheVariants.{Int, Atom, Compound, Var}
 use Rattle.pp_row.specs.Cells.{cells_of, variables_in}
-use Rattle.pp_row.proofs.Renaming.{among-cells_of}
+use Rattle.pp_row.proofs.Renaming.{among-cells_of, among-cells_of_all}
 use Rattle.pp_row.specs.Cells.{variables_among}
 use Rattle.pp_unify.specs.States.{IsOver}
 use Rattle.pp_algebra.specs.Numbered.{counted_from}
@@ -17,7 +17,6 @@ use Rattle.pp_row.specs.Reading.{IsForest, forest}
 use Rattle.pp_row.proofs.Piece.{cells_from}
 use Rattle.pp_unify.specs.Forests.{counted_all, AreOver}
 use Rattle.pp_unify.proofs.Among.{comes_from, comes_from_all}
-use Rattle.pp_unify.proofs.Decided.{among_all}
 use Rattle.pp_unify.proofs.Grown.{counted-zero}
 
 cell_there : (first n : ℕ) (c : Cell) (v : ℕ) → IsThere first n c → IsIn v (variables_in c) → first + v < n
@@ -49,7 +48,7 @@ over_zero r t h = subst (IsOver r) (counted-zero t) h
 
 -- the same of terms one behind the other
 pub forest_there : (first n : ℕ) (cs : List Cell) → IsForest cs → All (IsThere first n) cs → (v : ℕ) → IsIn v (variables_all (forest cs)) → first + v < n
-forest_there first n cs f h v i = all_among first n cs v h (subst (IsIn v) (sym (ap variables_among (sym (cells_from cs 0 f)) ∙ among_all (forest cs))) i)
+forest_there first n cs f h v i = all_among first n cs v h (subst (IsIn v) (sym (ap variables_among (sym (cells_from cs 0 f)) ∙ among-cells_of_all (forest cs))) i)
 
 pub forest_over : (r : Row) (cs : List Cell) (first n : ℕ) → IsForest cs → n ≡ count r.columns → All (IsThere first n) cs → AreOver r (counted_all first (forest cs))
 forest_over r cs first n f k h w i =

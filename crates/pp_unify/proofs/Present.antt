@@ -18,6 +18,7 @@ use Rattle.pp_heap.specs.Values.{slot_at, slot_domain}
 use Rattle.pp_heap.specs.Stores.{Store, made}
 use Rattle.pp_heap.specs.Soundness.{IsLinked, IsPlace}
 use Rattle.pp_unify.specs.States.{value_in, pattern_in, row_at}
+use Rattle.pp_algebra.proofs.Numbered.{count-from}
 
 column-from : (f : ℕ → Tree ℕ) (a n v : ℕ) → v < n → column (put_all f (variables_from a n)) v ≡ f (a + v)
 column-from f a zero v l = absurd (omega arith)
@@ -28,10 +29,6 @@ in-from : (f : ℕ → Tree ℕ) (a n v w : ℕ) → v < n → IsIn w (variables
 in-from f a zero v w l i = absurd (omega arith)
 in-from f a (suc n) zero w l i = let e : a + 0 ≡ a = omega arith in IsIn-left w (variables (f a)) (variables_all (put_all f (variables_from (suc a) n))) (subst (λ x. IsIn w (variables (f x))) e i)
 in-from f a (suc n) (suc v) w l i = let e : a + suc v ≡ suc a + v = omega arith in IsIn-right w (variables (f a)) (variables_all (put_all f (variables_from (suc a) n))) (in-from f (suc a) n v w (omega arith) (subst (λ x. IsIn w (variables (f x))) e i))
-
-count-from : (a n : ℕ) → count (variables_from a n) ≡ n
-count-from a zero = refl
-count-from a (suc n) = ap suc (count-from (suc a) n)
 
 pub wide_map : (D : Domains ℕ) (vs : List ℕ) → ((v : ℕ) → IsWide (D v)) → All IsWide (map D vs)
 wide_map D [] h = All-nil IsWide

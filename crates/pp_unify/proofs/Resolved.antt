@@ -4,7 +4,7 @@ use Rattle.pp_row.specs.declared.cell.Cell.{Cell}
 use Rattle.pp_row.specs.Cells.{cells_of, cells_of_all, head_of}
 use Rattle.pp_row.specs.Reading.{IsForest}
 use Rattle.pp_row.proofs.Next.{cell_of}
-use Rattle.pp_algebra.specs.Terms.{Tree, int, node, variable, Trees, none, more, put, put_all, join}
+use Rattle.pp_algebra.specs.Terms.{Tree, int, node, variable, Trees, more, put, put_all, join}
 use Rattle.pp_algebra.specs.Least.{arguments}
 use Rattle.pp_algebra.proofs.Put.{count-put_all}
 use Rattle.pp_heap.specs.declared.spans.Span.{Span}
@@ -19,11 +19,9 @@ use Rattle.pp_heap.specs.Spans.{terms_of}
 use Rattle.pp_unify.specs.Writing.{top_cell, written, IsWritten}
 use Rattle.pp_heap.proofs.Forests.{term_cell}
 use Rattle.pp_heap.proofs.Solutions.{solution_free}
-use Rattle.pp_heap.proofs.Walk.{put_all-join, sizes-join, opened_at, one}
-
-pub cells-join : (ts us : Trees ℕ) → cells_of_all (join ts us) ≡ cells_of_all ts ++ cells_of_all us
-cells-join none us = refl
-cells-join (more t ts) us = ap (λ (l : List Cell). cells_of t ++ l) (cells-join ts us) ∙ sym (append_assoc (cells_of t) (cells_of_all ts) (cells_of_all us))
+use Rattle.pp_heap.proofs.Walk.{sizes-join, opened_at, one}
+use Rattle.pp_row.proofs.OneTerm.{cells_of_all-join}
+use Rattle.pp_algebra.proofs.Joined.{put_all-join}
 
 cells_opened : (s : ℕ → Tree ℕ) (t : Tree ℕ) → IsCompound (cell_of t) → cells_of (put s t) ≡ cell_of t ∷ cells_of_all (put_all s (arguments t))
 cells_opened s (int n) h = absurd h
@@ -63,7 +61,7 @@ wrote_compound t p out new work now f l h n w =
     let gs = arguments (term_at heap p) in
     let o = opened_at s heap p f l h in
     record {
-      cells = rw (n, w, cells_at s heap p f l h, put_all-join s gs (terms_of heap work), cells-join (put_all s gs) (put_all s (terms_of heap work))) (append_assoc out (cell_at heap p ∷ []) (written s gs ++ written s (terms_of heap work)));
+      cells = rw (n, w, cells_at s heap p f l h, put_all-join s gs (terms_of heap work), cells_of_all-join (put_all s gs) (put_all s (terms_of heap work))) (append_assoc out (cell_at heap p ∷ []) (written s gs ++ written s (terms_of heap work)));
       less = rw w (omega (arith, sizes-join s gs (terms_of heap work), o.size));
     }
 
@@ -71,7 +69,7 @@ wrote_compound t p out new work now f l h n w =
 pub wrote_inside : (s : ℕ → Tree ℕ) (heap : List Cell) (p : ℕ) (out new : List Cell) (now r : Trees ℕ) → IsForest heap → p < length heap → IsCompound (cell_at heap p) → new ≡ out ++ cell_at heap p ∷ [] → now ≡ join (arguments (term_at heap p)) r → new ++ written s now ≡ out ++ written s (more (term_at heap p) r)
 wrote_inside s heap p out new now r f l h n w =
     let gs = arguments (term_at heap p) in
-    rw (n, w, cells_at s heap p f l h, put_all-join s gs r, cells-join (put_all s gs) (put_all s r)) (append_assoc out (cell_at heap p ∷ []) (written s gs ++ written s r))
+    rw (n, w, cells_at s heap p f l h, put_all-join s gs r, cells_of_all-join (put_all s gs) (put_all s r)) (append_assoc out (cell_at heap p ∷ []) (written s gs ++ written s r))
 
 -- the terms that were taken are written
 pub wrote_taken : (s : ℕ → Tree ℕ) (out new rest : List Cell) (t u : Tree ℕ) (r : Trees ℕ) → put s t ≡ put s u → new ++ rest ≡ out ++ (cells_of (put s u) ++ written s r) → new ++ rest ≡ out ++ written s (more t r)

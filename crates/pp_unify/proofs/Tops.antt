@@ -15,8 +15,9 @@ use Rattle.pp_heap.specs.Outcomes.{IsValue}
 use Rattle.pp_unify.specs.Tops.{IsNode, IsTop}
 use Rattle.pp_heap.proofs.Forests.{variable_at, int_at, atom_at}
 use Rattle.pp_unify.proofs.Heaps.{IsNamed, compound_named}
-use Rattle.pp_unify.proofs.Grown.{forest_cells, last_term, last_within}
+use Rattle.pp_unify.proofs.Grown.{last_term, last_within}
 use Rattle.pp_heap.proofs.Solutions.{own_domains, solution_free, solution_agrees}
+use Rattle.pp_row.proofs.InStep.{is_forest}
 
 -- a term by its first cell
 module _ (t : Tree ℕ) (cs : List Cell) (e : cs ≡ cells_of t) (h : IsTerm t) where
@@ -24,16 +25,16 @@ module _ (t : Tree ℕ) (cs : List Cell) (e : cs ≡ cells_of t) (h : IsTerm t) 
   some_cell = last_within [] cs t 0 e refl
 
   pub int_first : (n : ℤ) → cell_at cs 0 ≡ cells.Int n → t ≡ int n
-  int_first n f = sym (last_term [] cs t 0 e refl) ∙ int_at cs 0 n (forest_cells t cs e h) some_cell f
+  int_first n f = sym (last_term [] cs t 0 e refl) ∙ int_at cs 0 n (is_forest t cs e h) some_cell f
 
   pub atom_first : (a : ℕ) → cell_at cs 0 ≡ cells.Atom a → t ≡ node a none
-  atom_first a f = sym (last_term [] cs t 0 e refl) ∙ atom_at cs 0 a (forest_cells t cs e h) some_cell f
+  atom_first a f = sym (last_term [] cs t 0 e refl) ∙ atom_at cs 0 a (is_forest t cs e h) some_cell f
 
   pub variable_first : (v : ℕ) → cell_at cs 0 ≡ cells.Var v → t ≡ variable v
-  variable_first v f = sym (last_term [] cs t 0 e refl) ∙ variable_at cs 0 v (forest_cells t cs e h) some_cell f
+  variable_first v f = sym (last_term [] cs t 0 e refl) ∙ variable_at cs 0 v (is_forest t cs e h) some_cell f
 
   pub named_first : (g k : ℕ) → cell_at cs 0 ≡ cells.Compound g k → IsNamed t
-  named_first g k f = subst IsNamed (last_term [] cs t 0 e refl) (compound_named cs 0 (forest_cells t cs e h) some_cell (subst IsCompound (sym f) tt))
+  named_first g k f = subst IsNamed (last_term [] cs t 0 e refl) (compound_named cs 0 (is_forest t cs e h) some_cell (subst IsCompound (sym f) tt))
 
 pub top_named : (slots : List Slot) (s : ℕ → Tree ℕ) (t : Tree ℕ) (c : Value) → IsNamed t → IsNode c → IsTop slots (put s t) c
 top_named slots s t c n h = subst (λ u. IsTop slots (put s u) c) (sym n.is) h

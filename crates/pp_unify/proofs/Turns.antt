@@ -1,7 +1,7 @@
 -- Items that are solved one after another.
-use Rattle.std.proofs.Common.{◌≡◌, ℕ, zero, suc, ◌<◌, List, [], ◌∷◌, map, All, Some, refl, ap, sym, ◌∙◌, subst, inl, inr, arith}
+use Rattle.std.proofs.Common.{◌≡◌, ℕ, ◌<◌, List, [], ◌∷◌, map, All, Some, refl, ap, sym, ◌∙◌, subst, inl, inr}
 use Rattle.std.proofs.lemmas.List.Elements.{All-head, All-tail}
-use Rattle.pp_algebra.specs.Terms.{Tree, variable, Trees, none, more, count, put, put_all}
+use Rattle.pp_algebra.specs.Terms.{Tree, variable, count, put, put_all}
 use Rattle.pp_algebra.specs.Rows.{Domains, Row, domain_at, pattern_of, IsRow}
 use Rattle.pp_algebra.specs.Covers.{IsIn, MayGo}
 use Rattle.pp_algebra.specs.Solve.{Item, equation, membership, Holds, AllHold, Meets, IsSolved, HasNone, Solvable}
@@ -14,11 +14,7 @@ use Rattle.pp_algebra.proofs.Solving.{covers-goes, any_order}
 use Rattle.pp_unify.specs.States.{value_in, IsOver}
 use Rattle.pp_algebra.specs.Numbered.{column}
 use Rattle.pp_unify.specs.Laws.{item_in, IsItemOver, AreSolved, OneHasNone, SolvedInTurn, SolvedInAnyTurn}
-
-column-put : (s : ℕ → Tree ℕ) (ts : Trees ℕ) (v : ℕ) → v < count ts → column (put_all s ts) v ≡ put s (column ts v)
-column-put s none v l = absurd (omega arith)
-column-put s (more t ts) zero l = refl
-column-put s (more t ts) (suc v) l = column-put s ts v (omega arith)
+use Rattle.pp_algebra.proofs.Numbered.{column-put}
 
 over_by : (r q : Row) (t : Tree ℕ) → count q.columns ≡ count r.columns → IsOver r t → IsOver q t
 over_by r q t e h = λ v i. subst (λ n. v < n) (sym e) (h v i)

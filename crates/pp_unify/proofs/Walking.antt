@@ -11,7 +11,7 @@ use Rattle.pp_row.specs.declared.cell.Cell.{Cell}
 use Rattle.pp_row.specs.declared.cell.Cell.TheVariants as cells
 use Rattle.pp_row.specs.Cells.{arity_of}
 use Rattle.pp_row.specs.Reading.{IsForest, forest, from}
-use Rattle.pp_row.proofs.Next.{next, cell_of}
+use Rattle.pp_row.proofs.Next.{next, cell_of, some_inside}
 use Rattle.pp_heap.specs.declared.spans.Span.{Span}
 use Rattle.pp_heap.specs.declared.state.State.{State}
 use Rattle.pp_heap.specs.Values.{cell_at, term_at}
@@ -25,7 +25,7 @@ use Rattle.pp_unify.specs.Forests.{counted_all}
 use Rattle.pp_unify.specs.Heads.{IsVariable, IsTurned, HasTurned}
 use Rattle.pp_unify.specs.Joining.{AreAlike, JoinedBy, NeverAlike}
 use Rattle.pp_unify.proofs.Equations.{alike_grown}
-use Rattle.pp_unify.proofs.HeadSteps.{no_trees, some_within, opened_equal, put_top}
+use Rattle.pp_unify.proofs.HeadSteps.{no_trees, opened_equal, put_top}
 use Rattle.pp_unify.proofs.PairSteps.{more_equal}
 
 -- what is left of the goal: the work, and its terms from `at` on
@@ -134,7 +134,7 @@ module _ (a i : State) (ws : List Span) (n : ℕ) (goal : List Cell) (at m : ℕ
 
 -- the goal's next term is there, where no work is left
 pub goal_within : (i : State) (ws : List Span) (goal : List Cell) (at : ℕ) (head : List Cell) (to : ℕ) → ws ≡ [] → IsForest head → to < length head → count (terms_of i.heap.items ws) + count (from goal at) ≡ count (from head to) → at < length goal
-goal_within i ws goal at head to e g h k = some_within goal at (omega (arith, k, ap count ((next head to (cells.Int (pos 0)) g h).some), ap (λ vs. count (terms_of i.heap.items vs)) e))
+goal_within i ws goal at head to e g h k = some_inside goal at (omega (arith, k, ap count ((next head to (cells.Int (pos 0)) g h).some), ap (λ vs. count (terms_of i.heap.items vs)) e))
 
 -- nothing is left
 pub reached : (a i : State) (ws : List Span) (n : ℕ) (goal : List Cell) (at m : ℕ) (head : List Cell) (to : ℕ) → from head to ≡ none → count (terms_of i.heap.items ws) + count (from goal at) ≡ count (from head to) → Reaches a i ws n goal at m head to → JoinedBy a i n (forest goal) m (forest head)

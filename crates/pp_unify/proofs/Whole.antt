@@ -12,15 +12,14 @@ use Rattle.pp_row.specs.Reading.{IsForest, forest}
 use Rattle.pp_heap.specs.Values.{term_at}
 use Rattle.pp_unify.specs.States.{IsOver, in_place, IsSolvedBy}
 use Rattle.pp_unify.specs.Forests.{counted_all, AreOver, pairs, AreDecided}
-use Rattle.pp_unify.proofs.Grown.{forest_cells}
-use Rattle.pp_unify.proofs.HeadSteps.{whole_head}
+use Rattle.pp_row.proofs.InStep.{is_forest, from_start}
 
 module _ (t : Tree ℕ) (cs : List Cell) where
   pub whole_forest : cs ≡ cells_of t → IsTerm t → IsForest cs
-  whole_forest e h = forest_cells t cs e h
+  whole_forest e h = is_forest t cs e h
 
   pub whole_one : cs ≡ cells_of t → forest cs ≡ more t none
-  whole_one e = whole_head t cs e
+  whole_one e = from_start t cs e
 
   pub whole_term : (n : ℕ) → cs ≡ cells_of t → counted_from n (term_at cs 0) ≡ counted_from n t
   whole_term n e = ap (λ ts. counted_from n (first ts)) (whole_one e)

@@ -13,9 +13,7 @@ use Rattle.pp_heap.specs.declared.state.Entry.{Entry}
 use Rattle.pp_heap.specs.declared.state.State.{State}
 use Rattle.pp_heap.specs.Values.{slot_at, slot_domain}
 use Rattle.pp_heap.specs.Stores.{Store, store_of, entries_of, before, made}
-
-abbrev pub no_columns : Row
-no_columns = record { columns = none; domains = [] }
+pub use Rattle.pp_algebra.specs.Numbered.{no_columns}
 
 -- the last one; there is always one
 abbrev pub present : List Row → Row

@@ -1,4 +1,4 @@
-use Rattle.pp_lgg.proofs.Columns.{same_width}
+use Rattle.pp_row.proofs.ColumnLists.{same_width}
 use Rattle.pp_bench.proofs.joined.Goals as goal
 
 pub join-requires : goal.join-requires

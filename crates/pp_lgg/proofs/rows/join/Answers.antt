@@ -6,9 +6,10 @@ use Rattle.pp_algebra.specs.Rows.{AreWide, domain_at}
 use Rattle.std.specs.Prelude.{nat_eq}
 use Rattle.pp_row.specs.Columns.{trees_of, sets_of, pattern_by}
 use Rattle.pp_lgg.specs.Pairs.{names}
-use Rattle.pp_lgg.proofs.Columns.{same_length, next_column, all_columns, least_again}
+use Rattle.pp_lgg.proofs.Columns.{next_column, all_columns, least_again}
 use Rattle.pp_algebra.proofs.WideLeast.{unions_wide}
 use Rattle.pp_lgg.proofs.rows.join.Goals as goal
+use Rattle.pp_row.proofs.ColumnLists.{same_length}
 
 pub bounds-right-k : goal.bounds-right-k
 bounds-right-k c =

@@ -4,9 +4,9 @@ use Rattle.pp_algebra.specs.Least.{least_tree}
 use Rattle.pp_row.specs.Cells.{IsLegalCell}
 use Rattle.pp_row.specs.Reading.{from}
 use Rattle.pp_lgg.specs.Pairs.{IsPair, names}
-use Rattle.pp_lgg.proofs.Common.{common}
 use Rattle.pp_lgg.proofs.Walked.{Walked}
 use Rattle.pp_lgg.proofs.walk.joined.Given as goal
+use Rattle.pp_algebra.proofs.WideLeast.{common}
 
 abbrev pub invariant-loop-i : goal.invariant-loop-i
 invariant-loop-i l = record {

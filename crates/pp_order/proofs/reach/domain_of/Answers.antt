@@ -1,4 +1,4 @@
-use Rattle.std.proofs.Common.{◌≡◌, arith, ap, ◌∙◌, sym}
+use Rattle.std.proofs.Common.{arith, ap, ◌∙◌, sym}
 use Rattle.pp_algebra.specs.Rows.{domain_at}
 use Rattle.pp_row.specs.Columns.{set_by, sets_of}
 use Rattle.pp_row.proofs.DomainLists.{at_within, at_past}

@@ -1,4 +1,3 @@
-use Rattle.std.proofs.Common.{◌≡◌}
 use Rattle.pp_algebra.specs.Rows.{domain_at}
 use Rattle.pp_domain.specs.Sets.{set_of}
 use Rattle.pp_row.specs.Columns.{sets_of}

@@ -1,12 +1,13 @@
-use Rattle.std.proofs.Common.{◌≡◌, ◌+◌, ◌<◌, ℕ, [], length, drop, arith, refl, ap, sym, ◌∙◌, subst, true, false}
+use Rattle.std.proofs.Common.{[], length, arith, refl, sym, ◌∙◌, subst, true, false}
 use Rattle.std.proofs.Math.ListN.{length-map}
 use Rattle.pp_algebra.specs.Terms.{variables, variables_all}
-use Rattle.pp_algebra.specs.Rows.{domain_at, IsNumbered}
-use Rattle.pp_row.specs.Columns.{sets_of, trees_of}
+use Rattle.pp_algebra.specs.Rows.{IsNumbered}
+use Rattle.pp_row.specs.Columns.{trees_of}
 use Rattle.pp_order.specs.Bindings.{terms, term_of}
 use Rattle.pp_order.proofs.Walking.{at_end}
-use Rattle.pp_order.proofs.Columns.{same_length, columns_from, column_numbered, past_column, other_column, all_columns, taken, covered}
+use Rattle.pp_order.proofs.Columns.{columns_from, column_numbered, past_column, other_column, all_columns, taken, covered}
 use Rattle.pp_order.proofs.rows.covers.Goals as goal
+use Rattle.pp_row.proofs.ColumnLists.{same_length}
 
 pub bounds-right-k : goal.bounds-right-k
 bounds-right-k c =

@@ -3,7 +3,6 @@ use Rattle.pp_algebra.specs.Rows.{domain_at}
 use Rattle.pp_row.specs.Columns.{sets_of, trees_of}
 use Rattle.pp_order.specs.Bindings.{AreBound, terms}
 use Rattle.pp_order.proofs.Walking.{Walked}
-use Rattle.pp_order.proofs.Columns.{past_column, other_column, taken, covered}
 use Rattle.pp_order.proofs.rows.covers.Given as goal
 
 abbrev pub invariant-loop-k : goal.invariant-loop-k

@@ -1,5 +1,5 @@
 use Rattle.std.proofs.Common.{refl}
-use Rattle.pp_order.proofs.Walking.{same_span, bound_push}
+use Rattle.pp_order.proofs.Walking.{same_span}
 use Rattle.pp_order.proofs.walk.bind.Goals as goal
 
 pub returns-then-place-len-clause-old : goal.returns-then-place-len-clause-old

@@ -1,13 +1,13 @@
-use Rattle.std.proofs.Common.{◌≡◌, ◌+◌, ◌<◌, ℕ, length, pos, arith, refl, ap, sym, ◌∙◌, subst, get_or, true, false}
+use Rattle.std.proofs.Common.{◌≡◌, ◌+◌, length, pos, arith, ap, sym, ◌∙◌, subst, get_or, true, false}
 use Rattle.std.proofs.Math.ListN.{length-map}
 use Rattle.std.specs.Prelude.{not}
 use Rattle.pp_row.specs.contracts.cell.CellPartialEq.TheImpl.{eq-value}
 use Rattle.pp_algebra.specs.Terms.{count, variables}
 use Rattle.pp_algebra.specs.Rows.{domain_at, IsNumbered}
-use Rattle.pp_algebra.specs.Least.{first, rest}
-use Rattle.pp_row.specs.declared.cell.Cell.TheVariants.{Int, Var}
+use Rattle.pp_algebra.specs.Least.{rest}
+use Rattle.pp_row.specs.declared.cell.Cell.TheVariants.{Int}
 use Rattle.pp_row.specs.Columns.{sets_of}
-use Rattle.pp_row.specs.Reading.{from, tree_of}
+use Rattle.pp_row.specs.Reading.{tree_of}
 use Rattle.pp_row.proofs.Next.{next}
 use Rattle.pp_order.specs.Bindings.{terms}
 use Rattle.pp_row.proofs.InStep.{is_forest, from_start, right_too, count_cell, count_term, nothing_left}

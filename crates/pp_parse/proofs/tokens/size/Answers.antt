@@ -1,7 +1,8 @@
 use Rattle.std.proofs.Common.{◌+◌, ◌*◌, arith, drop, get_or, refl, ap, sym, ◌∙◌}
 use Rattle.pp_language.specs.Kinds.{value_of}
-use Rattle.pp_parse.proofs.Digits.{value_grows, value_on}
+use Rattle.pp_parse.proofs.Digits.{value_on}
 use Rattle.pp_parse.proofs.tokens.size.Goals as goal
+use Rattle.pp_language.proofs.Digits.{value_grows}
 
 pub overflow_mul-value : goal.overflow_mul-value
 overflow_mul-value c = omega (arith, value_grows c.loop-digit.value (drop c.loop-digit.digit-index c.args.digits.now))

@@ -9,11 +9,12 @@ use Rattle.pp_heap.specs.Stores.{store_of}
 use Rattle.pp_algebra.specs.Numbered.{counted_from}
 use Rattle.pp_heap.specs.Outcomes.{IsValue}
 use Rattle.pp_heap.proofs.Forests.{legal_at}
-use Rattle.pp_unify.proofs.Grown.{shifted_cells, counted_term, forest_cells, cells_among, last_term, last_within, last_compound}
+use Rattle.pp_unify.proofs.Grown.{shifted_cells, counted_term, cells_among, last_term, last_within, last_compound}
 use Rattle.pp_unify.proofs.Equations.{grown_itself}
 use Rattle.pp_unify.proofs.Tops.{some_cell, int_first, atom_first, variable_first}
 use Rattle.pp_heap.proofs.Words.{word}
 use Rattle.pp_unify.proofs.terms.entered.Goals as goal
+use Rattle.pp_row.proofs.InStep.{is_forest}
 
 pub bounds-0 : goal.bounds-0
 bounds-0 c = some_cell c.args.term.now c.cells-cells.result.now c.cells-cells.ensures.cells c.cells-cells.ensures.term
@@ -26,7 +27,7 @@ returns-in-Int c =
     let a = c.args.state.now in
     let t = c.args.term.now in
     let cs = c.cells-cells.result.now in
-    let n = subst IsLegalCell c.in-Int.is (legal_at cs 0 (forest_cells t cs c.cells-cells.ensures.cells c.cells-cells.ensures.term) (some_cell t cs c.cells-cells.ensures.cells c.cells-cells.ensures.term)) in
+    let n = subst IsLegalCell c.in-Int.is (legal_at cs 0 (is_forest t cs c.cells-cells.ensures.cells c.cells-cells.ensures.term) (some_cell t cs c.cells-cells.ensures.cells c.cells-cells.ensures.term)) in
     let e = int_first t cs c.cells-cells.ensures.cells c.cells-cells.ensures.term c.in-Int.value c.in-Int.is in
     record {
       grown = grown_itself a c.requires.good;
@@ -46,7 +47,7 @@ pub grow-requires-clause-forest : goal.grow-requires-clause-forest
 grow-requires-clause-forest c =
     let t = c.args.term.now in
     let cs = c.cells-cells.result.now in
-    forest_cells (counted_from c.args.first t) (shifted c.args.first cs) (shifted_cells c.args.first t cs c.cells-cells.ensures.cells) (counted_term c.args.first t c.cells-cells.ensures.term)
+    is_forest (counted_from c.args.first t) (shifted c.args.first cs) (shifted_cells c.args.first t cs c.cells-cells.ensures.cells) (counted_term c.args.first t c.cells-cells.ensures.term)
 
 pub grow-requires-clause-variables : goal.grow-requires-clause-variables
 grow-requires-clause-variables c =

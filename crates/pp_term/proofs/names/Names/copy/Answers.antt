@@ -2,8 +2,9 @@ use Rattle.std.proofs.Common.{[], map, ap, ◌∙◌, arith}
 use Rattle.std.proofs.lemmas.List.{take_all}
 use Rattle.pp_algebra.specs.Canon.{firsts}
 use Rattle.pp_algebra.specs.Texts.{same_text}
-use Rattle.pp_row.proofs.Keys.{same_text-IsSame, firsts-distinct, firsts_more}
+use Rattle.pp_row.proofs.Keys.{firsts-distinct, firsts_more}
 use Rattle.pp_term.proofs.names.Names.copy.Goals as goal
+use Rattle.pp_algebra.proofs.SameText.{same_text-IsSame}
 
 pub loop-text-preserved : goal.loop-text-preserved
 loop-text-preserved c =

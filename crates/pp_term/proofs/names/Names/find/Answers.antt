@@ -1,8 +1,9 @@
 use Rattle.std.proofs.Common.{◌≡◌, true, false, ap, sym, ◌∙◌}
 use Rattle.pp_algebra.specs.Canon.{has, place}
 use Rattle.pp_algebra.specs.Texts.{same_text}
-use Rattle.pp_row.proofs.Keys.{same_text-IsSame, any_has, position_place, position_some, has_none}
+use Rattle.pp_row.proofs.Keys.{any_has, position_place, position_some, has_none}
 use Rattle.pp_term.proofs.names.Names.find.Goals as goal
+use Rattle.pp_algebra.proofs.SameText.{same_text-IsSame}
 
 pub returns-in-Some : goal.returns-in-Some
 returns-in-Some c =

@@ -3,8 +3,9 @@ use Rattle.std.proofs.Math.ListN.{length-map}
 use Rattle.pp_algebra.specs.Canon.{has, place, firsts, Distinct}
 use Rattle.pp_algebra.proofs.OneCanon.{distinct_push}
 use Rattle.pp_algebra.specs.Texts.{same_text}
-use Rattle.pp_row.proofs.Keys.{same_text-IsSame, same_text-itself, any_has, position_place, position_some, has_none, taken_new, firsts_new, place_new}
+use Rattle.pp_row.proofs.Keys.{any_has, position_place, position_some, has_none, taken_new, firsts_new, place_new}
 use Rattle.pp_term.proofs.names.Names.intern.Goals as goal
+use Rattle.pp_algebra.proofs.SameText.{same_text-IsSame, same_text-itself}
 
 pub returns-in-Some-clause-names : goal.returns-in-Some-clause-names
 returns-in-Some-clause-names c =

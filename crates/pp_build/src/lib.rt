@@ -1,0 +1,8 @@
+//! The clauses and queries that a sentence's parts write.
+#![tactic(auto)]
+
+mod clauses;
+mod goals;
+mod terms;
+
+pub use clauses::{clause, query};

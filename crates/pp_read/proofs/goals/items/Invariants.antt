@@ -1,7 +1,0 @@
-use Rattle.std.proofs.Common.{◌≡◌, map}
-use Rattle.pp_read.specs.Meanings.{item_of}
-use Rattle.pp_read.specs.Values.{item_from}
-use Rattle.pp_read.proofs.goals.items.Given as goal
-
-abbrev pub invariant-loop-entry : goal.invariant-loop-entry
-invariant-loop-entry l = map item_of l.items.items ≡ map (item_from l.names l.parts) l.yielded
