@@ -1,10 +1,9 @@
 -- A goal that is lent from a well-formed clause has as many arguments as its kind.
-use Rattle.std.proofs.Common.{◌≡◌, ℕ, List, [], ◌∷◌, length, refl, sym, ◌∙◌, subst, arith}
-use Rattle.pp_algebra.specs.Terms.{Tree, count}
+use Rattle.std.proofs.Common.{◌≡◌, ℕ, List, refl, sym, ◌∙◌, subst}
+use Rattle.pp_algebra.specs.Terms.{count}
 use Rattle.pp_algebra.specs.Rows.{Row}
 use Rattle.pp_sld.specs.BuiltIns as built_ins
 use Rattle.pp_sld.specs.Goals.{Shape, user, equals, member, test}
-use Rattle.pp_row.specs.Columns.{trees_of}
 use Rattle.pp_row.specs.Reading.{forest}
 use Rattle.pp_term.specs.declared.pred.Shape.TheVariants.{User, Plus, Times, Indomain}
 use Rattle.pp_term.specs.declared.pred.Relation.TheVariants.{Less, AtMost, Equal, Differ}
@@ -22,6 +21,7 @@ use Rattle.pp_clause.specs.declared.goal_at.Kind.{Kind}
 use Rattle.pp_clause.specs.declared.goal_at.Kind.TheVariants as kinds
 use Rattle.pp_clause.specs.Goals.{Asks, IsGoalAt}
 use Rattle.pp_goal.specs.Arguments.{arity_of, HasArity, IsLent, terms_of}
+use Rattle.pp_row.proofs.ColumnLists.{count-trees_of}
 
 -- by the definition's own names
 abbrev places : built_ins.Test → ℕ
@@ -47,10 +47,6 @@ same_places tests.Differ = refl
 same_places tests.Plus = refl
 same_places tests.Times = refl
 same_places tests.Indomain = refl
-
-count-trees_of : (ts : List (Tree ℕ)) → count (trees_of ts) ≡ length ts
-count-trees_of [] = refl
-count-trees_of (t ∷ ts) = let i = count-trees_of ts in omega (arith, i)
 
 has_places : (n : ℕ) (g : Goal) → IsGoal n g → HasPlaces (goal_of g).shape (count (goal_of g).arguments)
 has_places n (Call (User p) ts) h = tt

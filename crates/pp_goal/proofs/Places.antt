@@ -1,22 +1,15 @@
 -- The arguments of a goal by their places among its cells.
-use Rattle.std.proofs.Common.{◌≡◌, ℕ, zero, suc, ◌+◌, ◌<◌, ◌≤◌, List, [], ◌∷◌, length, Some, Option, refl, ap, sym, ◌∙◌, subst, arith, append-nil}
-use Rattle.std.proofs.Math.Seq.{drop-nil}
-use Rattle.pp_algebra.specs.Terms.{Tree, Trees, none, more, put, put_all, count}
+use Rattle.std.proofs.Common.{◌≡◌, ℕ, zero, suc, ◌+◌, ◌<◌, ◌≤◌, List, [], ◌∷◌, Option, refl, ap, ◌∙◌, arith}
+use Rattle.pp_algebra.specs.Terms.{Trees, none, more, count}
 use Rattle.pp_algebra.specs.Rows.{Domain}
 use Rattle.pp_algebra.specs.Givens.{given, givens}
 use Rattle.pp_algebra.specs.Least.{first, rest}
 use Rattle.pp_algebra.specs.Numbered.{column}
 use Rattle.pp_row.specs.declared.cell.Cell.{Cell}
-use Rattle.pp_row.specs.Cells.{cells_of}
-use Rattle.pp_row.specs.Codes.{stack-cells_of}
-use Rattle.pp_row.specs.Reading.{stack, tree_of, all_of, forest, from, IsOneTerm, IsForest}
+use Rattle.pp_row.specs.Reading.{tree_of, all_of, forest, IsOneTerm}
 use Rattle.pp_goal.specs.Arguments.{after}
-
--- a term that is there begins at a cell
-pub some_inside : (cs : List Cell) (e : ℕ) → 0 < count (from cs e) → e < length cs
-some_inside [] e h = absurd (omega (arith, h, ap (λ x. count (forest x)) (drop-nil e)))
-some_inside (c ∷ cs) zero h = omega arith
-some_inside (c ∷ cs) (suc e) h = let r = some_inside cs e h in omega (arith, r)
+use Rattle.pp_row.proofs.OneTerm.{reads_one}
+pub use Rattle.pp_row.proofs.OneTerm.{one_is_forest}
 
 after-rest : (k : ℕ) (ts : Trees ℕ) → after k (rest ts) ≡ rest (after k ts)
 after-rest zero ts = refl
@@ -39,25 +32,14 @@ count-after (suc k) ts l =
     let r = count-rest (after k ts) (omega (arith, l, i)) in
     omega (arith, i, r)
 
-pub column-put : (s : ℕ → Tree ℕ) (ts : Trees ℕ) (k : ℕ) → k < count ts → column (put_all s ts) k ≡ put s (column ts k)
-column-put s none zero l = absurd (omega (arith, l))
-column-put s none (suc k) l = absurd (omega (arith, l))
-column-put s (more t ts) zero l = refl
-column-put s (more t ts) (suc k) l = column-put s ts k (omega (arith, l))
-
 pub column-first : (ts : Trees ℕ) → 0 < count ts → column ts 0 ≡ first ts
 column-first none l = absurd (omega (arith, l))
 column-first (more t ts) l = refl
 
 -- the cells of one term
-reads_one : (cs : List Cell) → IsOneTerm cs → stack cs ≡ Some (more (tree_of cs) none)
-reads_one cs h = subst (λ x. stack x ≡ Some (more (tree_of cs) none)) (append-nil (cells_of (tree_of cs)) ∙ h.whole) (stack-cells_of (tree_of cs) [] none refl)
 
 pub one_forest : (cs : List Cell) → IsOneTerm cs → forest cs ≡ more (tree_of cs) none
 one_forest cs h = ap all_of (reads_one cs h)
-
-pub one_is_forest : (cs : List Cell) → IsOneTerm cs → IsForest cs
-one_is_forest cs h = record { legal = h.legal; reads = reads_one cs h ∙ ap Some (sym (one_forest cs h)) }
 
 -- what is known of one, two or three terms
 pub one_given : (ds : List (Option Domain)) (ts : Trees ℕ) → count ts ≡ 1 → givens ds ts ≡ given ds (column ts 0) ∷ []

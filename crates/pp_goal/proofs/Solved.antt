@@ -20,8 +20,8 @@ use Rattle.pp_sld.specs.Selection.{both_sides, first_in, at_place}
 use Rattle.pp_unify.specs.States.{in_place, IsSolvedBy}
 use Rattle.pp_unify.specs.Laws.{OneHasNone}
 use Rattle.pp_unify.specs.Forests.{counted_all, AreOver, pairs, AreDecided}
-use Rattle.pp_goal.proofs.Places.{column-put}
 use Rattle.pp_goal.proofs.Acting.{one_decided, at_place-one}
+use Rattle.pp_algebra.proofs.Numbered.{column-put}
 
 -- ===== a value
 

@@ -113,3 +113,26 @@ some_next false ls l e h = sym (ap works.work_of (next_last ls l true h))
 pub next_of : (b : Bool) (ls : List Level) → (b ≡ true → ls ≡ []) → works.next (work_by (cond b None (Some ls))) ≡ works.work_of (next_levels (map level_by ls))
 next_of true ls e = ap (λ (x : List Level). works.work_of (next_levels (map level_by x))) (sym (e refl))
 next_of false ls e = refl
+
+-- ===== the levels of a split, as they are written
+
+module _ (ls ds : List Level) (k : ℕ) (e : ds ≡ ls) where
+  -- the level that is split
+  abbrev pub split_at : Level
+  split_at = get_or ls k (here.level 0 0)
+
+  next_place : split_at.now + 1 ≡ suc split_at.now
+  next_place = omega arith
+
+  pub split_off : (es new : List Level) → es ≡ ls → new ≡ take k es ++ here.level ((get_or ds k (here.level 0 0)).now + 1) (get_or ds k (here.level 0 0)).end ∷ [] → new ≡ take k ls ++ here.level (suc split_at.now) split_at.end ∷ []
+  split_off es new f g =
+      g
+      ∙ ap (λ v. take k v ++ here.level ((get_or ds k (here.level 0 0)).now + 1) (get_or ds k (here.level 0 0)).end ∷ []) f
+      ∙ ap (λ v. take k ls ++ here.level ((get_or v k (here.level 0 0)).now + 1) (get_or v k (here.level 0 0)).end ∷ []) e
+      ∙ ap (λ n. take k ls ++ here.level n split_at.end ∷ []) next_place
+
+  pub split_stays : (new : List Level) → new ≡ set ls k (here.level (get_or ds k (here.level 0 0)).now ((get_or ds k (here.level 0 0)).now + 1)) → new ≡ set ls k (here.level split_at.now (suc split_at.now))
+  split_stays new g =
+      g
+      ∙ ap (λ v. set ls k (here.level (get_or v k (here.level 0 0)).now ((get_or v k (here.level 0 0)).now + 1))) e
+      ∙ ap (λ n. set ls k (here.level split_at.now n)) next_place

@@ -9,7 +9,8 @@ use Rattle.pp_row.specs.Cells.{cells_of, cells_of_all, arity_of}
 use Rattle.pp_language.specs.Texts.{Text}
 use Rattle.pp_language.specs.Printing.{term_text, more_arguments_text, atom_text, name_at}
 use Rattle.pp_print.specs.Left.{cell_text, behind, text_left}
-use Rattle.pp_print.proofs.Left.{cells-join, text_left-open}
+use Rattle.pp_print.proofs.Left.{text_left-open}
+use Rattle.pp_row.proofs.OneTerm.{cells_of_all-join}
 
 -- these cells are terms, and with their text the whole is what was there before and the text of the term
 pub record Writes (names : List Text) (t : Tree ℕ) (before out : Text) (unclosed : List ℕ) (rest : List Cell) : Type 0 where
@@ -74,7 +75,7 @@ module _ (names : List Text) (t : Tree ℕ) (before out written : Text) (unclose
           let start : written ≡ out ++ (atom_text (name_at names b) ++ 40 ∷ []) = e ∙ ap (λ x. out ++ cell_text names x) g in
           record {
             terms = more u (join ts us);
-            cells = ap (λ ds. cells_of u ++ ds) (cells-join ts us) ∙ sym (append_assoc (cells_of u) (cells_of_all ts) (cells_of_all us)) ∙ m;
+            cells = ap (λ ds. cells_of u ++ ds) (cells_of_all-join ts us) ∙ sym (append_assoc (cells_of u) (cells_of_all ts) (cells_of_all us)) ∙ m;
             text = ap (λ x. x ++ text_left names (unclosed ++ arity_of c ∷ []) (more u (join ts us))) start
                 ∙ ap (λ x. (out ++ (atom_text (name_at names b) ++ 40 ∷ [])) ++ text_left names (unclosed ++ x ∷ []) (more u (join ts us))) (ap arity_of g)
                 ∙ ap (λ x. (out ++ (atom_text (name_at names b) ++ 40 ∷ [])) ++ x) (text_left-open names unclosed u ts us)

@@ -2,14 +2,9 @@
 use Rattle.std.proofs.Common.{◌≡◌, ℕ, zero, suc, pred, ◌-◌, ◌<◌, ◌≤◌, List, [], ◌∷◌, ◌++◌, length, refl, ap, sym, ◌∙◌, append_assoc, arith}
 use Rattle.std.proofs.lemmas.List.Sums.{fold-append}
 use Rattle.pp_algebra.specs.Terms.{Tree, Trees, none, more, count, join}
-use Rattle.pp_row.specs.Cells.{cells_of, cells_of_all}
 use Rattle.pp_language.specs.Texts.{Text}
 use Rattle.pp_language.specs.Printing.{term_text, more_arguments_text}
 use Rattle.pp_print.specs.Left.{all_text, closing, behind, text_left}
-
-pub cells-join : (ts us : Trees ℕ) → cells_of_all (join ts us) ≡ cells_of_all ts ++ cells_of_all us
-cells-join none us = refl
-cells-join (more t ts) us = ap (λ cs. cells_of t ++ cs) (cells-join ts us) ∙ sym (append_assoc (cells_of t) (cells_of_all ts) (cells_of_all us))
 
 module _ (names : List Text) where
   -- behind the first argument of a compound come the others, and what is behind the compound

@@ -1,5 +1,5 @@
 -- Marks by variable while cells and terms are walked.
-use Rattle.std.proofs.Common.{◌≡◌, ℕ, zero, suc, ◌+◌, ◌<◌, Bool, true, false, ◌||◌, nat_eq, List, [], ◌∷◌, ◌++◌, take, drop, get_or, length, refl, ap, sym, ◌∙◌, append-nil, add-one, arith}
+use Rattle.std.proofs.Common.{◌≡◌, ℕ, zero, suc, ◌+◌, ◌<◌, Bool, ◌||◌, nat_eq, List, [], ◌∷◌, ◌++◌, take, drop, get_or, length, refl, ap, sym, ◌∙◌, append-nil, add-one, arith}
 use Rattle.std.proofs.Math.Seq.{drop-cons}
 use Rattle.std.proofs.lemmas.List.{drop_all, take_all}
 use Rattle.pp_algebra.specs.Terms.{Tree, int, node, variable, Trees, none, more, variables, variables_all, count}
@@ -9,6 +9,8 @@ use Rattle.pp_row.specs.declared.cell.Cell.TheVariants.{Int, Atom, Compound, Var
 use Rattle.pp_row.specs.Cells.{head_of, cells_of, cells_of_all}
 use Rattle.pp_row.specs.Columns.{trees_of}
 use Rattle.pp_print.specs.Marks.{cell_variables, mark_at, AddsMarks}
+use Rattle.std.proofs.Math.Bool.{or_assoc}
+use Rattle.pp_algebra.proofs.CanonLemmas.{has-append}
 
 variables-append : (cs ds : List Cell) → cell_variables (cs ++ ds) ≡ cell_variables cs ++ cell_variables ds
 variables-append [] ds = refl
@@ -36,14 +38,6 @@ pub record MarksFirst (n : ℕ) (ts : List (Tree ℕ)) (i : ℕ) (marks : List B
   pub size : length marks ≡ n
   pub each : (v : ℕ) → v < n → (mark_at marks v || has nat_eq (variables_all (trees_of (drop i ts))) v) ≡ has nat_eq (variables_all (trees_of ts)) v
 
-or-or : (a b c : Bool) → ((a || b) || c) ≡ (a || (b || c))
-or-or true b c = refl
-or-or false b c = refl
-
-has-append : (xs ys : List ℕ) (v : ℕ) → has nat_eq (xs ++ ys) v ≡ (has nat_eq xs v || has nat_eq ys v)
-has-append [] ys v = refl
-has-append (x ∷ xs) ys v = ap (λ b. nat_eq x v || b) (has-append xs ys v) ∙ sym (or-or (nat_eq x v) (has nat_eq xs v) (has nat_eq ys v))
-
 pub written_back : (marked old : List Bool) (n : ℕ) → n ≡ length old → length marked ≡ length old → take n (marked ++ drop (length marked) old) ≡ marked
 written_back marked old n e s = rw (drop_all (length marked) old (omega arith), append-nil) (take_all n marked (omega arith))
 
@@ -57,8 +51,8 @@ marks_more n ts i d cs old marked l m e s a = record {
       let rest : ℕ → Bool = λ w. has nat_eq (variables_all (trees_of (drop (suc i) ts))) w in
       rw add-one (
       ap (λ b. b || rest v) (a v (omega (arith, m.size)) ∙ ap (λ ws. mark_at old v || has nat_eq ws v) vs)
-      ∙ or-or (mark_at old v) (has nat_eq (variables t) v) (rest v)
-      ∙ ap (λ b. mark_at old v || b) (sym (has-append (variables t) (variables_all (trees_of (drop (suc i) ts))) v) ∙ ap (λ us. has nat_eq (variables_all (trees_of us)) v) (sym (drop-cons ts i d l)))
+      ∙ or_assoc (mark_at old v) (has nat_eq (variables t) v) (rest v)
+      ∙ ap (λ b. mark_at old v || b) (sym (has-append nat_eq (variables t) (variables_all (trees_of (drop (suc i) ts))) v) ∙ ap (λ us. has nat_eq (variables_all (trees_of us)) v) (sym (drop-cons ts i d l)))
       ∙ m.each v h
       );
 }

@@ -6,6 +6,7 @@ mod stops;
 mod turns;
 
 use std::{env, io};
+use stops::Act;
 
 /// How much is done of the work that is asked for.
 const MANY: u32 = 1_000_000;
@@ -18,9 +19,15 @@ fn main(rt: HostRuntime) -> io::Result<()> {
     let threads = if asks(&words, "beside") { 4 } else { 1 };
     let turned = turns::turns(&rt, rt.alloc(), threads, amount(&words, "turns"))?;
     println!(rt; "turns {turned}")?;
-    let loaded = stops::loads(&rt, rt.alloc(), threads, amount(&words, "loads"))?;
+    let loaded = stops::counted(&rt, rt.alloc(), threads, amount(&words, "loads"), Act::Load)?;
     println!(rt; "loads {loaded}")?;
-    let raised = stops::raises(&rt, rt.alloc(), threads, amount(&words, "raises"))?;
+    let raised = stops::counted(
+        &rt,
+        rt.alloc(),
+        threads,
+        amount(&words, "raises"),
+        Act::Raise,
+    )?;
     println!(rt; "raises {raised}")?;
     let offered = deals::offers(&rt, rt.alloc(), threads, amount(&words, "offers"))?;
     println!(rt; "offers {offered}")?;

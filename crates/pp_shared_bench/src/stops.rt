@@ -32,33 +32,20 @@ fn raise_often(stop: &Stop, mut seat: StopSeat, times: u32) -> u64
     raises
 }
 
-/// How many loads one of so many threads makes.
-pub fn loads<R: Threads + Sync>(
-    rt: &R,
-    alloc: Global,
-    threads: u32,
-    times: u32,
-) -> Result<u64, AllocError>
-    requires { (1 ≤ threads) × (threads ≤ 4) }
-{
-    let (stop, seats) = Stop::new(alloc, threads)?;
-    let shared = &stop;
-    let mut counts = thread::map_vec(
-        rt,
-        seats,
-        &|seat: StopSeat| -> u64
-            requires { IsNew shared.now seat }
-        { load_often(shared, seat, times) },
-    )?;
-    Ok(counts.pop().unwrap_or(0))
+/// What threads do to a stop word.
+#[derive(Clone, Copy, Debug)]
+pub enum Act {
+    Load,
+    Raise,
 }
 
-/// How many raises one of so many threads makes.
-pub fn raises<R: Threads + Sync>(
+/// What one of so many threads counts, each of which loads or raises the stop word so many times.
+pub fn counted<R: Threads + Sync>(
     rt: &R,
     alloc: Global,
     threads: u32,
     times: u32,
+    act: Act,
 ) -> Result<u64, AllocError>
     requires { (1 ≤ threads) × (threads ≤ 4) }
 {
@@ -69,7 +56,12 @@ pub fn raises<R: Threads + Sync>(
         seats,
         &|seat: StopSeat| -> u64
             requires { IsNew shared.now seat }
-        { raise_often(shared, seat, times) },
+        {
+            match act {
+                Act::Load => load_often(shared, seat, times),
+                Act::Raise => raise_often(shared, seat, times),
+            }
+        },
     )?;
     Ok(counts.pop().unwrap_or(0))
 }

@@ -9,11 +9,12 @@ use Rattle.std.proofs.lemmas.List.Sums.{sum_by-set, count_by-le-length}
 use Rattle.std.proofs.lemmas.List.Folds.{sum_by-replicate}
 use Rattle.pp_algebra.specs.Canon.{has, firsts, Distinct}
 use Rattle.pp_algebra.proofs.Bools.{nat_same}
-use Rattle.pp_algebra.proofs.CanonLemmas.{nat_eq-IsSame}
+use Rattle.pp_algebra.proofs.CanonLemmas.{nat_eq-IsSame, has-append}
 use Rattle.pp_algebra.proofs.OneCanon.{distinct_push}
 use Rattle.pp_propagation.specs.Histories.{numbers_from}
 use Rattle.pp_wake.specs.Waiting.{IsGoalOf}
 use Rattle.pp_wake.specs.Flags.{Agree}
+use Rattle.std.proofs.Math.Bool.{or-true, or-false}
 
 -- ===== all goals
 
@@ -105,16 +106,7 @@ taken_agree flags new queue later goal len rest room after a e f g h =
 -- ===== one goal more
 
 has_last : (vs : List ℕ) (x v : ℕ) → has nat_eq (vs ++ x ∷ []) v ≡ (has nat_eq vs v || nat_eq x v)
-has_last [] x v = or_false (nat_eq x v)
-  where
-    or_false : (b : Bool) → (b || false) ≡ b
-    or_false true = refl
-    or_false false = refl
-has_last (w ∷ ws) x v = ap (λ b. nat_eq w v || b) (has_last ws x v) ∙ or_in (nat_eq w v) (has nat_eq ws v) (nat_eq x v)
-  where
-    or_in : (a b c : Bool) → (a || (b || c)) ≡ ((a || b) || c)
-    or_in true b c = refl
-    or_in false b c = refl
+has_last vs x v = has-append nat_eq vs (x ∷ []) v ∙ ap (λ b. has nat_eq vs v || b) (or-false (nat_eq x v))
 
 -- the goals that don't wait have room in the queue
 pub has_room : (flags : List Bool) (queue : List ℕ) (len room goal : ℕ) → Agree flags queue len room → IsGoalOf (length flags) goal → get_or flags (goal - 1) false ≡ false → len < room
@@ -144,18 +136,10 @@ woken_agree flags new queue longer goal len more room after a is was f e g h =
   where
     flag_now : (k : ℕ) → k < length flags → get_or (set flags (goal - 1) true) k false ≡ (has nat_eq queue (suc k) || nat_eq goal (suc k))
     flag_now k l = elim (cases_eq k (goal - 1)) [
-      | inl same ↦ (let there : goal ≡ suc k = omega (arith, same, is.0) in ap (λ j. get_or (set flags (goal - 1) true) j false) same ∙ get_or-set_same flags (goal - 1) true false (omega (arith, same, l)) ∙ sym (ap (λ b. has nat_eq queue (suc k) || b) (ap (λ j. nat_eq j (suc k)) there ∙ nat_same (suc k)) ∙ or_true (has nat_eq queue (suc k))))
+      | inl same ↦ (let there : goal ≡ suc k = omega (arith, same, is.0) in ap (λ j. get_or (set flags (goal - 1) true) j false) same ∙ get_or-set_same flags (goal - 1) true false (omega (arith, same, l)) ∙ sym (ap (λ b. has nat_eq queue (suc k) || b) (ap (λ j. nat_eq j (suc k)) there ∙ nat_same (suc k)) ∙ or-true (has nat_eq queue (suc k))))
       | inr other ↦ (let elsewhere : nat_eq goal (suc k) ≡ false = ne_eqb goal (suc k) (λ x. other (omega (arith, x, is.0))) in
-          get_or-set_other flags (goal - 1) k true false other ∙ a.flag k l ∙ sym (ap (λ b. has nat_eq queue (suc k) || b) elsewhere ∙ or_false (has nat_eq queue (suc k))))
+          get_or-set_other flags (goal - 1) k true false other ∙ a.flag k l ∙ sym (ap (λ b. has nat_eq queue (suc k) || b) elsewhere ∙ or-false (has nat_eq queue (suc k))))
     ]
-      where
-        or_true : (b : Bool) → (b || true) ≡ true
-        or_true true = refl
-        or_true false = refl
-
-        or_false : (b : Bool) → (b || false) ≡ b
-        or_false true = refl
-        or_false false = refl
 
 -- ===== what the flags tell
 

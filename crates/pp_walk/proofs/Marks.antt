@@ -8,6 +8,7 @@ use Rattle.pp_sld.specs.Trace.{Mark, tried, ends, trace_all, met, reductions, un
 use Rattle.pp_sld.specs.Paths.{kids, skip}
 use Rattle.pp_sld.proofs.Trees.{tree, fails_at, choice_tree, none_at_end}
 use Rattle.pp_walk.specs.Moves.{HasChoice, IsDeadAt}
+use Rattle.pp_sld.proofs.Walks.{reductions-append}
 
 -- so many reductions
 abbrev pub tries : ℕ → List Mark
@@ -29,11 +30,6 @@ met-tries (suc n) ms = met-tries n ms
 pub reductions-tries : (n : ℕ) → reductions (tries n) ≡ n
 reductions-tries zero = refl
 reductions-tries (suc n) = ap suc (reductions-tries n)
-
-pub reductions-append : (ms ns : List Mark) → reductions (ms ++ ns) ≡ reductions ms + reductions ns
-reductions-append [] ns = omega arith
-reductions-append (tried ∷ ms) ns = omega (arith, reductions-append ms ns)
-reductions-append (ends l ∷ ms) ns = reductions-append ms ns
 
 pub until-tries : (settled : List Mark → Bool) (n : ℕ) (seen rest : List Mark) → until settled seen (tries n ++ rest) ≡ until settled (seen ++ tries n) rest
 until-tries settled zero seen rest = ap (λ x. until settled x rest) (sym (append-nil seen))

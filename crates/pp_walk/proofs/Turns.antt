@@ -26,7 +26,8 @@ use Rattle.pp_walk.specs.declared.event.Event.TheVariants.{Went, Choice, Failed,
 use Rattle.pp_walk.specs.declared.stage.Stage.{Stage}
 use Rattle.pp_walk.specs.declared.stage.Stage.TheVariants.{Enter, Try, Back}
 use Rattle.pp_walk.specs.Walking.{State, state, AreTaken, FitsHere, owed, remaining, IsReady, effort, stop, Walked, Goes, Ends, Costs, Turns}
-use Rattle.pp_walk.proofs.Marks.{tries, tries-last, length-tries, met-tries, reductions-tries, reductions-append, until-tries, until-grows, passed_over, none_left}
+use Rattle.pp_walk.proofs.Marks.{tries, tries-last, length-tries, met-tries, reductions-tries, until-tries, until-grows, passed_over, none_left}
+use Rattle.pp_sld.proofs.Walks.{reductions-append}
 
 slice_some : (ws : List Way) (k : ℕ) → k < length ws → (w : Way) × (slice_get ws k ≡ Some w)
 slice_some [] k h = absurd (omega (arith, h))

@@ -1,24 +1,13 @@
 -- What is left of a text behind its beginning.
-use Rattle.std.proofs.Common.{◌≡◌, ◌≢◌, ℕ, true, false, cond, nat_eq, [], ◌∷◌, ◌++◌, Option, Some, None, MatchOption, Bor, refl, arith}
-use Rattle.std.proofs.lemmas.Bool.{eqb-true}
+use Rattle.std.proofs.Common.{◌≡◌, ◌≢◌, [], ◌∷◌, ◌++◌, Option, Some, None, MatchOption, Bor, refl}
 use Rattle.pp_language.specs.Texts.{Text}
 use Rattle.pp_language.proofs.CommandsRead.{left_behind}
-
-same_number : (b : ℕ) → nat_eq b b ≡ true
-same_number b = grind arith
+use Rattle.pp_algebra.proofs.Bools.{nat_same}
+use Rattle.pp_language.proofs.CommandsMade.{left_whole}
 
 left_start : (p r : Text) → left_behind p (p ++ r) ≡ Some r
 left_start [] r = refl
-left_start (b ∷ p) r = rw (same_number b) (left_start p r)
-
-left_whole : (p w r : Text) → left_behind p w ≡ Some r → w ≡ p ++ r
-left_whole [] w r e = cc e
-left_whole (b ∷ p) [] r e = absurd (cc e)
-left_whole (b ∷ p) (c ∷ w) r e =
-    elim (nat_eq b c) as (λ v. nat_eq b c ≡ v → cond v (left_behind p w) None ≡ Some r → c ∷ w ≡ b ∷ p ++ r) [
-      | true ↦ λ same f. rw (eqb-true b c same, left_whole p w r f) refl
-      | false ↦ λ same f. absurd (cc f)
-    ] refl e
+left_start (b ∷ p) r = rw (nat_same b) (left_start p r)
 
 left_none : (p w : Text) → ((r : Text) → w ≢ p ++ r) → left_behind p w ≡ None
 left_none p w h =

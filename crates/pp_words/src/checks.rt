@@ -6,11 +6,10 @@ ghost use Rattle.pp_language.proofs.CommandsRead.{kind_by, checked};
 ghost use Rattle.pp_words.specs.Entries.{entry_of, setting_of, entries_of, Gives, only, at_most_one, settings_once, is_trace};
 
 use crate::entry::{Entry, Setting};
-use crate::reading::is_same;
 use crate::words::WordsError;
 use pp_language::{
     AHEAD_LIMIT, Command, CommandKind, DEFAULT_AHEAD, DEFAULT_DEPTH, DEFAULT_TURNS,
-    DEFAULT_WORKERS, DEPTH_LIMIT, MAKE_LIMIT, Settings, TURN_LIMIT, WORKER_LIMIT,
+    DEFAULT_WORKERS, DEPTH_LIMIT, MAKE_LIMIT, Settings, TURN_LIMIT, WORKER_LIMIT, is_same,
 };
 
 fn greatest_value(setting: Setting) -> u64

@@ -8,6 +8,7 @@ ghost use Rattle.pp_words.specs.Entries.{entry_of, setting_of, after_step, entri
 use crate::entry::{Entry, Setting};
 use crate::number::number;
 use crate::words::WordsError;
+use pp_language::is_same;
 use std::alloc::{AllocError, Global};
 
 /// A word that was read: the name of an option whose value is the next word, or the end of an entry.
@@ -15,13 +16,6 @@ use std::alloc::{AllocError, Global};
 enum Step {
     Name(Setting),
     Whole(Entry),
-}
-
-/// Whether both are one text.
-pub(crate) fn is_same(left: &[u8], right: &[u8]) -> bool
-    ensures { result ≡ same_text left.now right.now }
-{
-    left == right
 }
 
 /// What is left of a word behind its beginning.

@@ -6,8 +6,8 @@ use Rattle.pp_algebra.proofs.Put.{count-put_all}
 use Rattle.pp_row.specs.Reading.{forest}
 use Rattle.pp_unify.specs.States.{present, value_in, in_place}
 use Rattle.pp_goal.specs.Arguments.{terms_of}
-use Rattle.pp_goal.proofs.Places.{column-put}
 use Rattle.pp_goal.proofs.arguments.argument.Goals as goal
+use Rattle.pp_algebra.proofs.Numbered.{column-put}
 
 pub returns : goal.returns
 returns c =

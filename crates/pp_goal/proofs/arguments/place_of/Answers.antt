@@ -3,8 +3,9 @@ use Rattle.pp_algebra.specs.Terms.{count}
 use Rattle.pp_algebra.specs.Least.{first, rest}
 use Rattle.pp_row.specs.Reading.{forest, from}
 use Rattle.pp_goal.specs.Arguments.{after}
-use Rattle.pp_goal.proofs.Places.{some_inside, column-after, count-after}
+use Rattle.pp_goal.proofs.Places.{column-after, count-after}
 use Rattle.pp_goal.proofs.arguments.place_of.Goals as goal
+use Rattle.pp_row.proofs.Next.{some_inside}
 
 pub loop-preserved : goal.loop-preserved
 loop-preserved c =

@@ -1,4 +1,4 @@
-use Rattle.pp_core_tests.proofs.Widths.{same_width}
+use Rattle.pp_row.proofs.ColumnLists.{same_width}
 use Rattle.pp_core_tests.proofs.tests.findings.is_under.Goals as goal
 
 pub covers-requires : goal.covers-requires

@@ -1,6 +1,6 @@
 use Rattle.std.proofs.Common.{◌≡◌, length, ap, sym, ◌∙◌, rules}
 use Rattle.pp_algebra.specs.Terms.{count}
-use Rattle.pp_infer_tests.proofs.Widths.{count-trees_of}
+use Rattle.pp_row.proofs.ColumnLists.{count-trees_of}
 use Rattle.pp_infer_tests.proofs.tests.alone.pred.Goals as goal
 
 pub returns : goal.returns

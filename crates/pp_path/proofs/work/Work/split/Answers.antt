@@ -1,8 +1,8 @@
-use Rattle.std.proofs.Common.{◌≡◌, ◌<◌, ◌+◌, suc, set, take, get_or, cond, map, Some, None, List, [], ◌∷◌, ◌++◌, sym, ap, ◌∙◌, subst, arith, true≢false}
+use Rattle.std.proofs.Common.{◌≡◌, ◌<◌, suc, set, take, get_or, cond, map, Some, None, List, sym, ap, ◌∙◌, subst, arith, true≢false}
 use Rattle.pp_sld.specs.Works as works
 use Rattle.pp_path.specs.declared.levels.Level.{Level}
 use Rattle.pp_path.specs.Works.{level, level_by, work_by, AreLevels, SplitsAt, AreLast}
-use Rattle.pp_path.proofs.LevelLists.{none_split, some_split, splits_sibling, levels_take, levels_snoc, levels_set, sibling_is_level}
+use Rattle.pp_path.proofs.LevelLists.{none_split, some_split, splits_sibling, levels_take, levels_snoc, levels_set, sibling_is_level, split_off, split_stays}
 use Rattle.pp_path.proofs.work.Work.split.Goals as goal
 
 pub returns-in_default-clause-split : goal.returns-in_default-clause-split
@@ -14,12 +14,7 @@ invariant_of-result c =
     let k = c.in-Some.place in
     let x : Level = get_or ls k (level 0 0) in
     let h : SplitsAt ls k = subst (λ v. SplitsAt v k) c.as_slice.ensures c.in-Some.ensures.some in
-    let one : x.now + 1 ≡ suc x.now = omega arith in
-    let new : c.in_ok-levels.levels.items ≡ take k ls ++ level (suc x.now) x.end ∷ [] =
-    c.in_ok-levels.ensures.levels
-    ∙ (ap (λ v. take k v ++ level ((get_or c.deref.result.now k (level 0 0)).now + 1) (get_or c.deref.result.now k (level 0 0)).end ∷ []) c.deref-2.ensures
-    ∙ (ap (λ v. take k ls ++ level ((get_or v k (level 0 0)).now + 1) (get_or v k (level 0 0)).end ∷ []) c.deref.ensures
-    ∙ ap (λ n. take k ls ++ level n x.end ∷ []) one)) in
+    let new = split_off ls c.deref.result.now k c.deref.ensures c.deref-2.result.now c.in_ok-levels.levels.items c.deref-2.ensures c.in_ok-levels.ensures.levels in
     (c.in_ok-levels.ensures.room, subst AreLevels (sym new) (levels_snoc (take k ls) (level (suc x.now) x.end) (levels_take ls k c.self.invariant.1) (sibling_is_level x (splits_sibling ls k (level 0 0) h))), λ e. absurd (true≢false (sym e)))
 
 pub invariant_of-self : goal.invariant_of-self
@@ -28,11 +23,7 @@ invariant_of-self c =
     let k = c.in-Some.place in
     let x : Level = get_or ls k (level 0 0) in
     let h : SplitsAt ls k = subst (λ v. SplitsAt v k) c.as_slice.ensures c.in-Some.ensures.some in
-    let one : x.now + 1 ≡ suc x.now = omega arith in
-    let stays : c.put.new.levels.items ≡ set ls k (level x.now (suc x.now)) =
-    c.put.ensures.items
-    ∙ (ap (λ v. set ls k (level (get_or v k (level 0 0)).now ((get_or v k (level 0 0)).now + 1))) c.deref.ensures
-    ∙ ap (λ n. set ls k (level x.now n)) one) in
+    let stays = split_stays ls c.deref.result.now k c.deref.ensures c.put.new.levels.items c.put.ensures.items in
     let less : x.now < suc x.now = omega arith in
     (omega (arith, c.self.invariant.0, c.put.ensures.capacity), subst AreLevels (sym stays) (levels_set ls k (level x.now (suc x.now)) c.self.invariant.1 less), λ e. absurd (subst (λ v. SplitsAt v k) (c.self.invariant.2 e) h))
 
@@ -42,16 +33,8 @@ returns-clause-split c =
     let k = c.in-Some.place in
     let x : Level = get_or ls k (level 0 0) in
     let h : SplitsAt ls k = subst (λ v. SplitsAt v k) c.as_slice.ensures c.in-Some.ensures.some in
-    let one : x.now + 1 ≡ suc x.now = omega arith in
-    let new : c.in_ok-levels.levels.items ≡ take k ls ++ level (suc x.now) x.end ∷ [] =
-    c.in_ok-levels.ensures.levels
-    ∙ (ap (λ v. take k v ++ level ((get_or c.deref.result.now k (level 0 0)).now + 1) (get_or c.deref.result.now k (level 0 0)).end ∷ []) c.deref-2.ensures
-    ∙ (ap (λ v. take k ls ++ level ((get_or v k (level 0 0)).now + 1) (get_or v k (level 0 0)).end ∷ []) c.deref.ensures
-    ∙ ap (λ n. take k ls ++ level n x.end ∷ []) one)) in
-    let stays : c.put.new.levels.items ≡ set ls k (level x.now (suc x.now)) =
-    c.put.ensures.items
-    ∙ (ap (λ v. set ls k (level (get_or v k (level 0 0)).now ((get_or v k (level 0 0)).now + 1))) c.deref.ensures
-    ∙ ap (λ n. set ls k (level x.now n)) one) in
+    let new = split_off ls c.deref.result.now k c.deref.ensures c.deref-2.result.now c.in_ok-levels.levels.items c.deref-2.ensures c.in_ok-levels.ensures.levels in
+    let stays = split_stays ls c.deref.result.now k c.deref.ensures c.put.new.levels.items c.put.ensures.items in
     ap (λ (v : List Level). Some (work_by (cond c.self.inside.is_spent None (Some v)), works.at (map level_by c.in_ok-levels.levels.items))) stays
     ∙ (ap (λ (v : List Level). Some (work_by (cond c.self.inside.is_spent None (Some (set ls k (level x.now (suc x.now))))), works.at (map level_by v))) new
     ∙ (some_split c.self.inside.is_spent ls k (level 0 0) c.self.invariant.2 h

@@ -1,4 +1,4 @@
-use Rattle.pp_rows_tests.proofs.Widths.{same_width}
+use Rattle.pp_row.proofs.ColumnLists.{same_width}
 use Rattle.pp_rows_tests.proofs.tests.covering.is_above.Goals as goal
 
 pub covers-requires : goal.covers-requires
