@@ -185,7 +185,7 @@ def read_options():
     if unknown := [it for it in options.texts if it not in texts.TEXTS]:
         parser.error(f"no such text: {', '.join(unknown)}")
     if not os.access(options.program, os.X_OK):
-        parser.error(f"{options.program} is not built; ./propia builds it")
+        parser.error(f"{options.program} is not built: `rt ci` leaves it")
     return options
 
 
