@@ -5,3 +5,4 @@ pub mod Solved
 pub mod Splitting
 pub mod Deciding
 pub mod Lent
+pub mod Tops

@@ -7,5 +7,6 @@ mod solving;
 mod split;
 
 pub use acts::{Act, act_on};
+pub use arguments::first_argument;
 pub use solving::perform;
 pub use split::{split_count, split_value};

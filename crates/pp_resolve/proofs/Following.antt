@@ -28,6 +28,10 @@ use Rattle.pp_unify.specs.Forests.{AreOver, AreDecided}
 use Rattle.pp_resolve.specs.Standing.{counted, standing, config_in}
 use Rattle.pp_resolve.specs.Acts.{placed, does, values}
 use Rattle.pp_resolve.specs.Engines.{DoWait}
+use Rattle.pp_clause.specs.declared.first.First.{First}
+use Rattle.pp_clause.specs.Firsts.{first_of, CannotMatch}
+use Rattle.pp_clause.proofs.Dead.{left_out_are_dead}
+use Rattle.pp_resolve.proofs.Firsts.{said_put}
 use Rattle.pp_resolve.proofs.Fresh.{HasFresh, fresh_many, no_fresh}
 use Rattle.pp_resolve.proofs.Steps.{over_left}
 use Rattle.pp_resolve.proofs.Calling.{call_leads, call_dead, over_before, over_after, over_goal, over_calls}
@@ -170,6 +174,16 @@ module _ (clauses : Program) (r : Row) (row : IsRow r) (before : List (Goal ℕ)
 
       pub called : next clauses here ≡ choices (map way (clauses p))
       called = follows (calls p) e ∙ ap (call_next clauses here (map (put_goal s) bf) (put_goal s g0) (map (put_goal s) af) p) k
+
+      -- a clause whose first argument has another top is dead
+      pub call_left_out : (first : First) (place : ℕ) (cl : Clause) → slice_get (clauses p) place ≡ Some cl → first ≡ first_of g0.arguments → CannotMatch first cl → IsDeadAt clauses here place
+      call_left_out first place cl at is out = (
+        map way (clauses p),
+        called,
+        way cl,
+        slice_get-map way (clauses p) place ∙ ap (option_map way) at,
+        left_out_are_dead first here (map (put_goal s) bf) (put_goal s g0) (map (put_goal s) af) d cl (said_put s first g0.arguments is) out,
+      )
 
       module _ (place : ℕ) (cl : Clause) (at : slice_get (clauses p) place ≡ Some cl) (amount : ℕ) (head : (v : ℕ) → IsIn v (variables_all cl.head) → v < amount) (body : (v : ℕ) → IsIn v (variables_all (with_goals cl.body none)) → v < amount) where
         abbrev n : ℕ

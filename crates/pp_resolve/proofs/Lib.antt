@@ -10,6 +10,7 @@ pub mod Unwinding
 pub mod Steps
 pub mod Calling
 pub mod BuiltIns
+pub mod Firsts
 pub mod Following
 pub mod Stepping
 pub mod Choosing

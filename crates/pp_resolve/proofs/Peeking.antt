@@ -1,9 +1,10 @@
 -- How many alternatives there are, by the selected goal.
-use Rattle.std.proofs.Common.{◌≡◌, ℕ, zero, suc, ◌+◌, List, [], ◌∷◌, ◌++◌, length, map, Some, refl, ap, sym, ◌∙◌, subst}
+use Rattle.std.proofs.Common.{◌≡◌, ℕ, zero, suc, List, [], ◌∷◌, ◌++◌, length, map, Some, refl, ap, sym, ◌∙◌, subst, arith}
+use Rattle.std.specs.List.{slice_get}
 use Rattle.std.proofs.lemmas.List.{length-map}
 use Rattle.pp_algebra.specs.Rows.{Row}
 use Rattle.pp_algebra.specs.Solve.{Item}
-use Rattle.pp_sld.specs.Goals.{Program, Predicate, Goal, put_goal, with_goals}
+use Rattle.pp_sld.specs.Goals.{Program, Predicate, Clause, Goal, put_goal, with_goals}
 use Rattle.pp_sld.specs.Selection.{solves, calls, never, splits}
 use Rattle.pp_sld.specs.Ways.{Way, choices, next}
 use Rattle.pp_term.specs.Meanings.{program}
@@ -13,8 +14,12 @@ use Rattle.pp_goal.specs.declared.acts.Act.TheVariants as acts
 use Rattle.pp_resolve.specs.declared.engine.Engine.{Engine}
 use Rattle.pp_resolve.specs.declared.history.Rest.{Rest}
 use Rattle.pp_resolve.specs.Standing.{counted, config_in}
-use Rattle.pp_resolve.specs.Acts.{does, values, ActsAs}
-use Rattle.pp_resolve.specs.Engines.{goal_of, row_of, DoWait, IsGood}
+use Rattle.pp_clause.specs.declared.first.First.{First}
+use Rattle.pp_clause.specs.Firsts.{first_of, CannotMatch}
+use Rattle.pp_clause.proofs.Places.{get_some}
+use Rattle.pp_walk.specs.Moves.{HasChoice, IsDeadAt}
+use Rattle.pp_resolve.specs.Acts.{placed, does, values, ActsAs}
+use Rattle.pp_resolve.specs.Engines.{goal_of, row_of, place_of, DoWait, IsGood}
 use Rattle.pp_resolve.specs.Events.{follows}
 use Rattle.pp_resolve.specs.Selected.{all_goals, AllGoalsWait, StandsAfter, IsSelectedAt}
 use Rattle.pp_resolve.proofs.Linked.{goal_there}
@@ -57,6 +62,18 @@ module _ (e : Engine) (good : IsGood e) (g : Goal ℕ) (s : StandsAfter e g) whe
           let way = so.way clauses r good.here.row (s.0) g (s.1) e.columns.columns e.front.depth over s.3 p h d z in
           let same : ws ≡ map way (clauses p) = cc (sym f ∙ (here ∙ so.called clauses r good.here.row (s.0) g (s.1) e.columns.columns e.front.depth over s.3 p h d z)) in
           ap length same ∙ length-map (clauses p) way
+
+  -- a clause that the first argument rules out is dead
+  pub so_left_out : (p : Predicate) → does r g ≡ Some (calls p) → (first : First) → first ≡ first_of (placed r g).arguments
+      → (k : ℕ) → HasChoice clauses (place_of e).here k → ((cl : Clause) → slice_get (clauses p) k ≡ Some cl → CannotMatch first cl) → IsDeadAt clauses (place_of e).here k
+  so_left_out p h first is k c out = go e.front.depth refl
+    where
+      go : (n : ℕ) → e.front.depth ≡ n → IsDeadAt clauses (place_of e).here k
+      go zero z = absurd (cc (sym (here ∙ so.spent clauses r good.here.row (s.0) g (s.1) e.columns.columns e.front.depth over s.3 p h z) ∙ c.1))
+      go (suc d) z =
+          let cl = get_some (clauses p) k (omega (arith, so_called p h c.0 c.1, c.2)) in
+          subst (λ gs. IsDeadAt clauses (config_in r gs e.columns.columns e.front.depth) k) (sym s.2)
+          (so.call_left_out clauses r good.here.row (s.0) g (s.1) e.columns.columns e.front.depth over s.3 p h d z first k cl.0 cl.1 is (out cl.0 cl.1))
 
   pub so_split : does r g ≡ Some splits → (ws : List Way) → follows e ≡ choices ws → length ws ≡ length (values r g)
   so_split h ws f =

@@ -1,8 +1,7 @@
-//! How many alternatives there are, told without a change.
-ghost use Rattle.std.specs.Prelude.{◌≡◌, ◌<◌, ◌≤◌, true, false, List, length, MatchOption};
-ghost use Rattle.pp_sld.specs.Ways.{Way, choices};
-ghost use Rattle.pp_resolve.specs.Events.{follows};
+//! Which alternative is tried next, told without a change.
+ghost use Rattle.std.specs.Prelude.{◌≡◌, ◌<◌, ◌≤◌, true, false, length, MatchOption};
 ghost use Rattle.pp_resolve.specs.Selected.{AllGoalsWait, IsSelected};
+ghost use Rattle.pp_goal.specs.declared.acts.Act.TheVariants.{Call, Split};
 ghost use Rattle.pp_term.specs.Meanings.{program};
 ghost use Rattle.pp_walk.specs.Moves.{IsAtChoice, IsNextPlace};
 ghost use Rattle.pp_resolve.specs.Engines.{place_of, goal_of, AllWait, IsGood};
@@ -10,7 +9,7 @@ ghost use Rattle.pp_resolve.specs.Links.{IsRest, goals_in};
 
 use crate::engine::Engine;
 use crate::history::Rest;
-use pp_goal::{Act, split_count};
+use pp_goal::{Act, first_argument, split_count};
 
 /// Whether a goal is left, of their own body or of a link.
 fn has_goals(rest: Rest) -> bool
@@ -77,30 +76,59 @@ impl<'a> Engine<'a> {
         None
     }
 
-    /// How many alternatives the goal has by what is done with it.
-    fn count_of(&self, rest: Rest, act: Act) -> u64
+    /// The next clause that may match the goal, from this place on.
+    fn next_clause(&self, rest: Rest, predicate: u32, from: u64) -> Option<u64>
         requires good { IsGood self.now }
-        requires selected { IsSelected self.now (rest, act) }
-        ensures { (ws : List Way) → follows self.now ≡ choices ws → length ws ≡ result }
+        requires selected { IsSelected self.now (rest, Call predicate) }
+        requires choice { IsAtChoice (program self.now.clauses.now) (place_of self.now).here }
+        ensures { IsNextPlace (program self.now.clauses.now) (place_of self.now).here from result }
     {
-        match act {
-            Act::Call(predicate) => self.clauses.count_at(predicate) as u64,
-            Act::Split => { split_count(&self.history.bindings, &self.goal(rest), rest.first) }
-            _ => 0,
+        if from >= self.clauses.count_at(predicate) as u64 {
+            return None;
+        }
+        let first = first_argument(&self.history.bindings, &self.goal(rest), rest.first);
+        match self.clauses.place_from(predicate, first, from as u32) {
+            Some(place) => Some(place as u64),
+            None => None,
         }
     }
 
-    /// How many alternatives there are here, where there is a choice. It changes nothing and takes no memory.
-    pub(crate) fn count(&self) -> u64
+    /// The next value of the goal's argument, from this place on.
+    fn next_value(&self, rest: Rest, from: u64) -> Option<u64>
         requires good { IsGood self.now }
-        ensures { (ws : List Way) → follows self.now ≡ choices ws → length ws ≡ result }
+        requires selected { IsSelected self.now (rest, Split) }
+        requires choice { IsAtChoice (program self.now.clauses.now) (place_of self.now).here }
+        ensures { IsNextPlace (program self.now.clauses.now) (place_of self.now).here from result }
+    {
+        if from < split_count(&self.history.bindings, &self.goal(rest), rest.first) {
+            Some(from)
+        } else {
+            None
+        }
+    }
+
+    /// The next alternative of the goal by what is done with it, from this place on.
+    fn next_of(&self, rest: Rest, act: Act, from: u64) -> Option<u64>
+        requires good { IsGood self.now }
+        requires selected { IsSelected self.now (rest, act) }
+        requires choice { IsAtChoice (program self.now.clauses.now) (place_of self.now).here }
+        ensures { IsNextPlace (program self.now.clauses.now) (place_of self.now).here from result }
+    {
+        match act {
+            Act::Call(predicate) => self.next_clause(rest, predicate, from),
+            Act::Split => self.next_value(rest, from),
+            _ => None,
+        }
+    }
+
+    /// The leftmost goal that doesn't wait, with what is done with it. It changes nothing and takes no memory.
+    fn selected(&self) -> Option<(Rest, Act)>
+        requires good { IsGood self.now }
+        ensures { MatchOption result (AllGoalsWait self.now) (IsSelected self.now) }
     {
         match self.woken() {
-            Some((rest, act)) => self.count_of(rest, act),
-            None => match self.ready() {
-                Some((rest, act)) => self.count_of(rest, act),
-                None => 0,
-            },
+            Some(found) => Some(found),
+            None => self.ready(),
         }
     }
 
@@ -110,10 +138,9 @@ impl<'a> Engine<'a> {
         requires choice { IsAtChoice (program self.now.clauses.now) (place_of self.now).here }
         ensures { IsNextPlace (program self.now.clauses.now) (place_of self.now).here from result }
     {
-        if from < self.count() {
-            Some(from)
-        } else {
-            None
+        match self.selected() {
+            Some((rest, act)) => self.next_of(rest, act, from),
+            None => None,
         }
     }
 }

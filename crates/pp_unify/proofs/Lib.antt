@@ -28,3 +28,4 @@ pub mod Widths
 pub mod HeadSteps
 pub mod Stepping
 pub mod Walking
+pub mod FirstCells

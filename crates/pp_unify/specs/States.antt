@@ -1,5 +1,5 @@
 -- Bindings as the list of kept states, each the row of all variables; the present one is the last.
-use Rattle.std.specs.Prelude.{◌≡◌, ℕ, zero, suc, nat_eq, ◌<◌, Bool, true, false, List, [], ◌∷◌, ◌++◌, length, Option, None}
+use Rattle.std.specs.Prelude.{◌≡◌, ℕ, zero, suc, nat_eq, ◌<◌, Bool, true, false, List, [], ◌∷◌, ◌++◌, length, Option, Some, None}
 use Rattle.std.specs.Coded.{Coded, coded_list}
 use Rattle.pp_algebra.specs.Terms.{Tree, int, node, variable, none, more, put, put_all, variables, count, join}
 use Rattle.pp_algebra.specs.Rows.{Domain, Pattern, Row, pattern_of, domain_at}
@@ -9,6 +9,9 @@ use Rattle.pp_algebra.specs.Solve.{Item, IsSolved, HasNone}
 use Rattle.pp_algebra.specs.Numbered.{variables_from, column}
 use Rattle.pp_row.specs.Codes.{row_code}
 use Rattle.pp_row.specs.Columns.{trees_of}
+use Rattle.pp_row.specs.declared.cell.Cell.{Cell}
+use Rattle.pp_row.specs.declared.cell.Cell.TheVariants as cells
+use Rattle.pp_row.specs.Cells.{head_of}
 use Rattle.pp_heap.specs.declared.state.Entry.{Entry}
 use Rattle.pp_heap.specs.declared.state.State.{State}
 use Rattle.pp_heap.specs.Values.{slot_at, slot_domain}
@@ -64,6 +67,12 @@ abbrev pub domain_in : Row → Tree ℕ → Option Domain
 domain_in r (int n) = None
 domain_in r (node f ts) = None
 domain_in r (variable v) = domain_at r.domains v
+
+-- the first cell of a term; a variable has none
+abbrev pub first_cell : Tree ℕ → Option Cell
+first_cell (int n) = Some (cells.Int n)
+first_cell (node f ts) = Some (head_of f (count ts))
+first_cell (variable v) = None
 
 -- what is known of the variables, before they are numbered
 abbrev pub pattern_in : List Entry → Store → Pattern ℕ

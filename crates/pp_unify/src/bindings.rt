@@ -12,7 +12,7 @@ ghost use Rattle.pp_domain.specs.Sets.{set_of};
 ghost use Rattle.pp_algebra.specs.Givens.{given};
 ghost use Rattle.pp_row.specs.Columns.{set_by};
 ghost use Rattle.pp_row.specs.Givens.{given_of};
-ghost use Rattle.pp_unify.specs.States.{no_columns, present, value_in, in_place, IsOver, with_new, with_many, with_value, IsLonger, IsSolvedBy, domain_in, row_in};
+ghost use Rattle.pp_unify.specs.States.{no_columns, present, value_in, in_place, IsOver, with_new, with_many, with_value, IsLonger, IsSolvedBy, domain_in, row_in, first_cell};
 ghost use Rattle.pp_algebra.specs.Numbered.{counted_from};
 
 use crate::pair::Scratch;
@@ -313,6 +313,16 @@ impl Bindings {
             }
             _ => Given::Other,
         }
+    }
+
+    /// The first cell of the term that begins at this cell, with all bindings in place; a free variable has none.
+    pub fn first_cell(&self, cells: &[Cell], at: usize, first: u32) -> Option<Cell>
+        requires whole { IsForest cells.now }
+        requires within { at < length cells.now }
+        requires over { AreOver (present self.now) (counted_all first (forest cells.now)) }
+        ensures { result ≡ first_cell (in_place (present self.now) (counted_from first (term_at cells.now at))) }
+    {
+        terms::first_cell(&self.state, cells, at, first)
     }
 
     /// The domain of a term that is a free variable with a finite domain.

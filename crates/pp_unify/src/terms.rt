@@ -11,6 +11,7 @@ ghost use Rattle.pp_heap.specs.Agreement.{Follows};
 ghost use Rattle.pp_heap.specs.Soundness.{IsGood, IsKept, IsPlace, IsCompound};
 ghost use Rattle.pp_heap.specs.Outcomes.{IsGrown, IsValue, IsNow, IsAddedAs, IsLater, IsVerdict};
 ghost use Rattle.pp_algebra.specs.Numbered.{counted_from};
+ghost use Rattle.pp_unify.specs.States.{first_cell};
 ghost use Rattle.pp_unify.specs.Tops.{IsAmong, IsTop, cells_under};
 ghost use Rattle.pp_unify.specs.Heads.{IsHead, IsLeaf};
 
@@ -58,6 +59,33 @@ pub(crate) fn top(state: &State, cells: &[Cell], at: usize, first: u32) -> Value
     match leaf(state, cells, at, first) {
         Some(value) => value,
         None => Value::Compound(0),
+    }
+}
+
+/// The first cell of a value; a free variable has none.
+fn cell_of(state: &State, value: Value) -> Option<Cell>
+    requires good { IsGood state.now }
+    requires now { IsNow (store_of state.now) value }
+    ensures { result ≡ first_cell (put (solution state.now) (value_term state.now.heap.items value)) }
+{
+    match value {
+        Value::Variable(_) => None,
+        Value::Int(value) => Some(Cell::Int(value)),
+        Value::Atom(name) => Some(Cell::Atom(name)),
+        Value::Compound(place) => Some(state.heap[place as usize]),
+    }
+}
+
+/// The first cell of the term at this place, with all bindings in place; a free variable has none.
+pub(crate) fn first_cell(state: &State, cells: &[Cell], at: usize, first: u32) -> Option<Cell>
+    requires good { IsGood state.now }
+    requires head { IsHead state.now.slots.items first cells.now }
+    requires within { at < length cells.now }
+    ensures { result ≡ first_cell (put (solution state.now) (counted_from first (term_at cells.now at))) }
+{
+    match cells[at] {
+        Cell::Var(variable) => cell_of(state, state.value_of(first + variable)),
+        cell => Some(cell),
     }
 }
 
