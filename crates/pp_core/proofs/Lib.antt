@@ -1,2 +1,2 @@
 mod Finds
-mod Worths
+pub mod Worths

@@ -1,0 +1,5 @@
+pub mod Books
+pub mod Entries
+pub mod Gathered
+pub mod Replays
+pub mod Rows

@@ -1,0 +1,3 @@
+pub mod Entries
+pub mod Gathers
+pub mod Passes
