@@ -1,5 +1,5 @@
 -- An engine takes an alternative of the selected goal.
-use Rattle.std.proofs.Common.{◌≡◌, inl, inr, ℕ, ℤ, zero, suc, ◌-◌, ◌^◌, ◌<◌, Bool, true, false, List, [], ◌∷◌, ◌++◌, length, map, take, drop, reverse, All, Some, refl, ap, sym, ◌∙◌, subst, arith, append_assoc}
+use Rattle.std.proofs.Common.{◌≡◌, inl, inr, ℕ, ℤ, zero, suc, ◌-◌, ◌^◌, ◌<◌, Bool, true, false, List, [], ◌∷◌, ◌++◌, length, map, take, drop, reverse, All, Some, None, refl, ap, sym, ◌∙◌, subst, arith, append_assoc}
 use Rattle.std.specs.List.{slice_get}
 use Rattle.std.proofs.lemmas.List.{take_all}
 use Rattle.std.proofs.lemmas.List.Elements.{All-head, All-tail}
@@ -193,7 +193,7 @@ module _ (e : Engine) (good : IsGood e) (wait : AllWait e) (n : ℕ) (sees : See
           rest = record { body = Some number; from = 0; to = to; first = first; next = nx }
 
           abbrev front : Front
-          front = record { passed = e.front.passed; rest = rest; depth = e.front.depth - 1 }
+          front = record { passed = e.front.passed; rest = rest; depth = e.front.depth - 1; selected = None }
 
           solved : AreDecided (with_many (row_of e) c.vars) (pairs (count (row_of e).columns) (trees_of c.head) e.front.rest.first (there).0.arguments) true q
           solved = subst (λ x. AreDecided (with_many (row_of e) c.vars) (pairs (count (row_of e).columns) (trees_of c.head) e.front.rest.first (there).0.arguments) x q) t decided
@@ -244,6 +244,7 @@ module _ (e : Engine) (good : IsGood e) (wait : AllWait e) (n : ℕ) (sees : See
               rest = record { formed = subst IsFormedAt (sym (at).at) (at).formed; from = omega arith; to = omega (arith, ap length body_is, mapped c.body, is_to c (at).at); next = linked.1; small = small };
               passed = good.here.passed;
               links = good.here.links;
+              known = tt;
             };
           }
 
@@ -321,15 +322,16 @@ module _ (e : Engine) (good : IsGood e) (wait : AllWait e) (sees : Sees e (Some 
           subst (λ x. IsDeadAt (program e.clauses.now) x place) (here_is e good wait sees.0 (item).0 (item).1)
           (so.value_failed (program e.clauses.now) (row_of e) good.here.row front_goals whole back_goals e.columns.columns e.front.depth (over e good wait sees.0 (item).0 (item).1) wait splitting place n value_there q (decides false h))
 
-      pub split_good : (rs : List Row) → present rs ≡ q → IsLonger e.history.bindings rs → AreDecided (row_of e) (at_place 0 n (terms_of d e.front.rest.first)) true q → IsGood (record { clauses = e.clauses; root = e.root; columns = e.columns; history = record e.history { bindings = rs }; front = record { passed = e.front.passed; rest = stepped e.front.rest; depth = e.front.depth } })
+      pub split_good : (rs : List Row) → present rs ≡ q → IsLonger e.history.bindings rs → AreDecided (row_of e) (at_place 0 n (terms_of d e.front.rest.first)) true q → IsGood (record { clauses = e.clauses; root = e.root; columns = e.columns; history = record e.history { bindings = rs }; front = record { passed = e.front.passed; rest = stepped e.front.rest; depth = e.front.depth; selected = None } })
       split_good rs pr l h = record {
-        ready = kept_longer e rs (record { passed = e.front.passed; rest = stepped e.front.rest; depth = e.front.depth }) good.ready l;
+        ready = kept_longer e rs (record { passed = e.front.passed; rest = stepped e.front.rest; depth = e.front.depth; selected = None }) good.ready l;
         here = record {
           row = subst IsRow (sym pr) (so.value_row (program e.clauses.now) (row_of e) good.here.row front_goals whole back_goals e.columns.columns e.front.depth (over e good wait sees.0 (item).0 (item).1) wait splitting place n value_there q (decides true h));
           over = subst (λ x. AreOver x (with_goals (front_goals ++ back_goals) e.columns.columns)) (sym pr) (so.value_over (program e.clauses.now) (row_of e) good.here.row front_goals whole back_goals e.columns.columns e.front.depth (over e good wait sees.0 (item).0 (item).1) wait splitting place n value_there q (decides true h));
           rest = stepped_rest e.clauses.now (engines.goal_of e) (length e.history.links.items) e.front.rest good.here.rest sees.0;
           passed = good.here.passed;
           links = good.here.links;
+          known = tt;
         };
       }
 

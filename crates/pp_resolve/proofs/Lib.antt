@@ -18,3 +18,4 @@ pub mod FreeRows
 pub mod Starts
 pub mod Peeking
 pub mod Woken
+pub mod Known

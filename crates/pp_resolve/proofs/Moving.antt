@@ -1,5 +1,5 @@
 -- An engine that stands at the same place with other links, or with a goal passed over.
-use Rattle.std.proofs.Common.{◌≡◌, ℕ, ◌+◌, ◌<◌, ◌≤◌, List, [], ◌∷◌, ◌++◌, length, get_or, map, reverse, All, None, refl, ap, sym, ◌∙◌, subst, arith, append_assoc}
+use Rattle.std.proofs.Common.{◌≡◌, ℕ, ◌+◌, ◌<◌, ◌≤◌, List, [], ◌∷◌, ◌++◌, length, get_or, map, reverse, All, Option, Some, None, refl, ap, sym, ◌∙◌, subst, arith, append_assoc}
 use Rattle.std.proofs.lemmas.List.Elements.{All-nil, All-cons, All-append}
 use Rattle.pp_algebra.specs.Rows.{Row, IsRow}
 use Rattle.pp_sld.specs.Goals.{Goal, Config, put_goal, with_goals}
@@ -14,7 +14,9 @@ use Rattle.pp_resolve.specs.declared.engine.Engine.{Engine}
 use Rattle.pp_resolve.specs.Standing.{counted, config_in}
 use Rattle.pp_resolve.specs.Frames.{frames_of, IsFit}
 use Rattle.pp_resolve.specs.Links.{piece, first_of, below, passed, goals_in, goals_of, IsRest, AreLinks}
-use Rattle.pp_resolve.specs.Engines.{config_of, Stands, goal_of, row_of, IsGood, IsSamePlace, waiting, DoWait, IsGoalAt}
+use Rattle.pp_goal.specs.declared.acts.Act.{Act}
+use Rattle.pp_goal.specs.declared.acts.Act.TheVariants.{Wait}
+use Rattle.pp_resolve.specs.Engines.{IsKnown, AllWait, Sees, config_of, Stands, goal_of, row_of, IsGood, IsSamePlace, waiting, DoWait, IsGoalAt}
 use Rattle.pp_resolve.specs.Shown.{root_of}
 use Rattle.pp_resolve.specs.Acts.{does}
 use Rattle.pp_resolve.proofs.Overs.{among}
@@ -26,8 +28,9 @@ place above here = record { above = above; here = here }
 pub same_place : (e : Engine) (h : History) (f : Front) → IsGood e → h.bindings ≡ e.history.bindings → IsFit h → frames_of h ≡ frames_of e.history
     → goals_of e.clauses.now (goal_of e) h.links.items f ≡ goals_of e.clauses.now (goal_of e) e.history.links.items e.front → f.depth ≡ e.front.depth
     → IsRest e.clauses.now (goal_of e) (length h.links.items) f.rest → f.passed ≤ length h.links.items → AreLinks e.clauses.now (goal_of e) (reverse h.links.items)
+    → IsKnown e.clauses.now (goal_of e) (row_of e) h.links.items f f.selected
     → IsSamePlace e (record { clauses = e.clauses; root = e.root; columns = e.columns; history = h; front = f })
-same_place e h f g b fit fr gs d rest within links =
+same_place e h f g b fit fr gs d rest within links known =
     let cs = e.clauses.now in
     let root = goal_of e in
     let calls = e.columns.columns in
@@ -41,6 +44,7 @@ same_place e h f g b fit fr gs d rest within links =
           rest = rest;
           passed = within;
           links = links;
+          known = subst (λ rs. IsKnown cs root (present rs) h.links.items f f.selected) (sym b) known;
         };
       };
       search = record { clauses = refl; root = refl; columns = refl };
@@ -54,12 +58,12 @@ same_place e h f g b fit fr gs d rest within links =
 
 -- the same history
 pub same_goals : (e : Engine) (f : Front) → IsGood e → goals_of e.clauses.now (goal_of e) e.history.links.items f ≡ goals_of e.clauses.now (goal_of e) e.history.links.items e.front → f.depth ≡ e.front.depth
-    → IsRest e.clauses.now (goal_of e) (length e.history.links.items) f.rest → f.passed ≤ length e.history.links.items
+    → IsRest e.clauses.now (goal_of e) (length e.history.links.items) f.rest → f.passed ≤ length e.history.links.items → IsKnown e.clauses.now (goal_of e) (row_of e) e.history.links.items f f.selected
     → IsSamePlace e (record { clauses = e.clauses; root = e.root; columns = e.columns; history = e.history; front = f })
-same_goals e f g gs d rest within = same_place e e.history f g refl g.ready.fit refl gs d rest within g.here.links
+same_goals e f g gs d rest within known = same_place e e.history f g refl g.ready.fit refl gs d rest within g.here.links known
 
 pub same_self : (e : Engine) → IsGood e → IsSamePlace e e
-same_self e g = same_goals e e.front g refl refl g.here.rest g.here.passed
+same_self e g = same_goals e e.front g refl refl g.here.rest g.here.passed g.here.known
 
 pub same_through : (a b c : Engine) → IsSamePlace a b → IsSamePlace b c → IsSamePlace a c
 same_through a b c m n = record {
@@ -99,6 +103,20 @@ still_wait a b more n s e w h =
     subst (DoWait (row_of b)) (sym (along_still (λ l gs. gs ++ first_of b.clauses.now (goal_of b) l) a.history.links.items b.history.links.items more n e w))
     (carried (λ cs root rs. DoWait (present rs) (passed cs root (reverse a.history.links.items) n)) a b s h)
 
+-- links that come behind change nothing of what is known
+pub known_still : (cs : List Clause) (root : Goal ℕ) (r : Row) (ls ms more : List Rest) (f : Front) (o : Option Act) → ms ≡ ls ++ more → f.passed ≤ length ls → IsKnown cs root r ls f o → IsKnown cs root r ms f o
+known_still cs root r ls ms more f None e w k = tt
+known_still cs root r ls ms more f (Some a) e w k = (subst (DoWait r) (sym (along_still (λ l gs. gs ++ first_of cs root l) ls ms more f.passed e w)) k.0, k.1, k.2, k.3)
+
+-- what is done with the first goal that is left is kept
+pub kept_known : (e : Engine) (o : Option Act) → IsGood e → AllWait e → Sees e o → (o ≡ Some Wait → ⊥)
+    → IsSamePlace e (record { clauses = e.clauses; root = e.root; columns = e.columns; history = e.history; front = (let f : Front = record { passed = e.front.passed; rest = e.front.rest; depth = e.front.depth; selected = o } in f) })
+kept_known e o g w s r = same_goals e (record { passed = e.front.passed; rest = e.front.rest; depth = e.front.depth; selected = o }) g refl refl g.here.rest g.here.passed (known o s r)
+  where
+    known : (x : Option Act) → Sees e x → (x ≡ Some Wait → ⊥) → IsKnown e.clauses.now (goal_of e) (row_of e) e.history.links.items (record { passed = e.front.passed; rest = e.front.rest; depth = e.front.depth; selected = o }) x
+    known None t q = tt
+    known (Some a) t q = (w, t.0, t.1, λ z. q (ap Some z))
+
 -- the first goal is over the row
 pub first_over : (e : Engine) → IsGood e → e.front.rest.from < e.front.rest.to → (g : Goal ℕ) → IsGoalAt e e.front.rest g → AreOver (row_of e) (counted_all e.front.rest.first g.arguments)
 first_over e h w g at =
@@ -134,7 +152,7 @@ module _ (e : Engine) (h : IsGood e) (ls : List Rest) (n : ℕ) (w : e.front.res
       ∙ ap (λ gs. gs ++ raw ∷ []) (sym (along_still (λ l gs. gs ++ first_of cs root l) ls ms (one ∷ []) e.front.passed new p))
 
   abbrev front : Front
-  front = record { passed = n; rest = stepped e.front.rest; depth = e.front.depth }
+  front = record { passed = n; rest = stepped e.front.rest; depth = e.front.depth; selected = None }
 
   goals_passed : goals_of cs root ms front ≡ goals_of cs root ms e.front
   goals_passed =
@@ -143,7 +161,7 @@ module _ (e : Engine) (h : IsGood e) (ls : List Rest) (n : ℕ) (w : e.front.res
       ∙ ap (λ gs. waiting e e.front.passed ++ gs) (sym (goals_open cs root e.front.rest g at ms w))
 
   pub passed_over : IsSamePlace e (record { clauses = e.clauses; root = e.root; columns = e.columns; history = e.history; front = front })
-  passed_over = same_goals e front h goals_passed refl (stepped_rest cs root (length ms) e.front.rest h.here.rest w) (omega (arith, size))
+  passed_over = same_goals e front h goals_passed refl (stepped_rest cs root (length ms) e.front.rest h.here.rest w) (omega (arith, size)) tt
 
   pub now_wait : DoWait (row_of e) (waiting e e.front.passed) → does (row_of e) raw ≡ None → DoWait (row_of e) (waiting e n)
   now_wait a b = subst (DoWait (row_of e)) (sym chain_passed) (All-append (λ x. does (row_of e) x ≡ None) (waiting e e.front.passed) (raw ∷ []) a (All-cons (λ x. does (row_of e) x ≡ None) raw [] b (All-nil (λ x. does (row_of e) x ≡ None))))

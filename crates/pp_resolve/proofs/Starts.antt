@@ -21,7 +21,7 @@ module _ (cs : List Clause) (face : Row) (row : IsRow face) (s : goals.Shape) (d
   asked = record { shape = s; arguments = ts }
 
   abbrev front : Front
-  front = record { passed = 0; rest = record { body = None; from = 0; to = 1; first = 0; next = 0 }; depth = depth }
+  front = record { passed = 0; rest = record { body = None; from = 0; to = 1; first = 0; next = 0 }; depth = depth; selected = None }
 
   abbrev first : Trees ℕ → Goal ℕ
   first us = put_goal (counted 0) (record { shape = s; arguments = us })

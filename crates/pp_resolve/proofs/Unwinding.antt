@@ -38,7 +38,7 @@ module _ (a e : Engine) (more : List Rest) (s : IsSamePlace a e) (front_is : e.f
   rest = record { body = l.body; from = l.from; to = l.from + 1; first = l.first; next = n }
 
   abbrev front : Front
-  front = record { passed = l.next; rest = rest; depth = e.front.depth }
+  front = record { passed = l.next; rest = rest; depth = e.front.depth; selected = None }
 
   below_is : below cs root (reverse ms) n ≡ goals_in cs root ms a.front.rest
   below_is =
@@ -77,7 +77,8 @@ module _ (a e : Engine) (more : List Rest) (s : IsSamePlace a e) (front_is : e.f
       same_through a e (record { clauses = e.clauses; root = e.root; columns = e.columns; history = e.history; front = front }) s
       (same_goals e front s.good (goals_back ∙ ap (goals_of cs root ms) (sym front_is)) refl
       (carried (λ cs' root' rs. IsRest cs' root' (length ms) rest) a e s (record { formed = there.formed; from = omega arith; to = omega (arith, some, there.to); next = linked.1; small = omega (arith, some, there.small) }))
-      (omega (arith, next, w, size)))
+      (omega (arith, next, w, size))
+      tt)
 
 -- a goal that was passed over, by its link
 module _ (e : Engine) (good : IsGood e) (i : ℕ) (l : Rest) (w : i < length e.history.links.items) (is : l ≡ get_or e.history.links.items i l) where

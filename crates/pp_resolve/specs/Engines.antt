@@ -10,13 +10,25 @@ use Rattle.pp_unify.specs.Forests.{AreOver}
 use Rattle.pp_walk.specs.Places.{Place}
 use Rattle.pp_resolve.specs.declared.engine.Engine.{Engine}
 use Rattle.pp_resolve.specs.declared.history.Rest.{Rest}
+use Rattle.pp_resolve.specs.declared.history.Front.{Front}
 use Rattle.pp_goal.specs.declared.acts.Act.{Act}
+use Rattle.pp_goal.specs.declared.acts.Act.TheVariants.{Wait}
 use Rattle.pp_resolve.specs.Standing.{counted, config_in}
 use Rattle.pp_resolve.specs.Frames.{Frame, frames_of, frame_of, IsFit}
 use Rattle.pp_resolve.specs.Links.{goals_of, goals_in, below, passed, body_of, IsRest, AreLinks}
 use Rattle.pp_resolve.specs.Shown.{root_of, IsRoot}
 use Rattle.pp_goal.specs.Acts.{IsReady}
 use Rattle.pp_resolve.specs.Acts.{does, ActsAs}
+
+module _ (cs : List Clause) (root : Goal ℕ) where
+  -- what is done with the goal at a place of a body
+  abbrev pub LooksAt : Row → Rest → Act → Type 0
+  LooksAt r l a = (g : Goal ℕ) → slice_get (body_of cs root l.body) l.from ≡ Some g → ActsAs cs r (put_goal (counted l.first) g) a × IsReady (count g.arguments) a
+
+  -- where something is kept, it is what is done with the first goal that is left, and those that were passed over wait
+  abbrev pub IsKnown : Row → List Rest → Front → Option Act → Type 0
+  IsKnown r ls f None = Unit {0}
+  IsKnown r ls f (Some a) = All (λ g. does r g ≡ None) (passed cs root (reverse ls) f.passed) × (f.rest.from < f.rest.to) × LooksAt r f.rest a × (a ≡ Wait → ⊥)
 
 module _ (cs : List Clause) (root : Goal ℕ) (calls : Trees ℕ) where
   abbrev pub config_of : Frame → Config
@@ -29,6 +41,7 @@ module _ (cs : List Clause) (root : Goal ℕ) (calls : Trees ℕ) where
     pub rest : IsRest cs root (length f.links) f.front.rest
     pub passed : f.front.passed ≤ length f.links
     pub links : AreLinks cs root (reverse f.links)
+    pub known : IsKnown cs root f.row f.links f.front f.front.selected
 
 abbrev pub goal_of : Engine → Goal ℕ
 goal_of e = root_of e.root

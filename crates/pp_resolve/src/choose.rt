@@ -92,6 +92,7 @@ impl<'a> Engine<'a> {
         )?;
         if entered {
             self.front.depth -= 1;
+            self.front.selected = None;
             self.front.rest = Rest {
                 body: Some(number),
                 from: 0,
@@ -141,6 +142,7 @@ impl<'a> Engine<'a> {
         let equal = set_first(&mut self.history.bindings, &goal, rest.first, value)?;
         if equal {
             self.front.rest.from += 1;
+            self.front.selected = None;
         }
         Ok(equal)
     }

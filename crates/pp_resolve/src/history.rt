@@ -2,6 +2,7 @@
 ghost use Rattle.std.specs.Prelude.{◌≡◌, ◌++◌, [], ◌∷◌, OnOk, OnErr};
 ghost use Rattle.pp_resolve.specs.Frames.{frame_of, frames_of, IsFit, IsTaken};
 
+use pp_goal::Act;
 use pp_unify::{Bindings, Mark};
 use std::alloc::{AllocError, Global};
 
@@ -18,12 +19,14 @@ pub(crate) struct Rest {
 }
 
 /// What a branch still has to do: the link of the goals that were passed over because they wait, the goals that are
-/// left, and how many calls may follow.
+/// left, and how many calls may follow. Where the first goal that is left is known to be the selected one, it is kept
+/// what is done with it.
 #[derive(Clone, Copy, Debug, PartialEq, Eq)]
 pub(crate) struct Front {
     pub(crate) passed: u32,
     pub(crate) rest: Rest,
     pub(crate) depth: u32,
+    pub(crate) selected: Option<Act>,
 }
 
 /// A state that was left by a choice: how many states and links there were, and what was to do.

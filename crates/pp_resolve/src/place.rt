@@ -126,6 +126,9 @@ impl<'a> Engine<'a> {
         requires good { IsGood self.now }
         ensures { MatchOption result (AllGoalsWait self.now) (IsSelected self.now) }
     {
+        if let Some(act) = self.front.selected {
+            return Some((self.front.rest, act));
+        }
         match self.woken() {
             Some(found) => Some(found),
             None => self.ready(),

@@ -50,6 +50,7 @@ impl<'a> Engine<'a> {
         let rest = self.front.rest;
         if rest.from == rest.to && rest.next > 0 {
             self.front.rest = self.history.links[rest.next as usize - 1];
+            self.front.selected = None;
         }
     }
 
@@ -83,6 +84,7 @@ impl<'a> Engine<'a> {
         })?;
         self.front.passed = number;
         self.front.rest.from += 1;
+        self.front.selected = None;
         Ok(())
     }
 
@@ -121,6 +123,7 @@ impl<'a> Engine<'a> {
             ..last
         };
         self.front.passed = last.next;
+        self.front.selected = None;
         Ok(())
     }
 
@@ -138,7 +141,7 @@ impl<'a> Engine<'a> {
     }
 
     /// Stands at the leftmost goal that doesn't wait, and says what is done with it; `None` where all wait.
-    pub(crate) fn select(&mut self) -> Result<Option<Act>, AllocError>
+    fn find(&mut self) -> Result<Option<Act>, AllocError>
         requires good { IsGood self.old }
         ensures same { IsSamePlace self.old self.new }
         ensures wait { OnOk result (AllWait self.new) }
@@ -151,6 +154,21 @@ impl<'a> Engine<'a> {
             self.pass()?;
             act = self.see();
         }
+        Ok(act)
+    }
+    /// The same, and it is kept: until the engine moves, no goal is looked at again.
+    pub(crate) fn select(&mut self) -> Result<Option<Act>, AllocError>
+        requires good { IsGood self.old }
+        ensures same { IsSamePlace self.old self.new }
+        ensures wait { OnOk result (AllWait self.new) }
+        ensures sees { IfOk result (Sees self.new) }
+        ensures ready { IfOk result (λ act. act ≢ Some Wait) }
+    {
+        if let Some(act) = self.front.selected {
+            return Ok(Some(act));
+        }
+        let act = self.find()?;
+        self.front.selected = act;
         Ok(act)
     }
 }

@@ -94,6 +94,7 @@ impl<'a> Engine<'a> {
                     next: 0,
                 },
                 depth,
+                selected: None,
             },
         })
     }

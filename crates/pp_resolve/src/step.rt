@@ -130,6 +130,7 @@ impl<'a> Engine<'a> {
         let goal = goal_at(self.clauses, &self.root, rest);
         if solve(&mut self.history.bindings, &goal, rest.first, act)? {
             self.front.rest.from += 1;
+            self.front.selected = None;
             Ok(Event::Went)
         } else {
             Ok(Event::Failed)

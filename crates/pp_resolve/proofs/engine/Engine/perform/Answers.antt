@@ -40,6 +40,7 @@ returns-then-branch-clause-good c =
         rest = stepped_rest e.clauses.now (goal_of e) (length e.history.links.items) e.front.rest here.rest c.requires.sees.0;
         passed = here.passed;
         links = here.links;
+        known = tt;
       };
     }
 

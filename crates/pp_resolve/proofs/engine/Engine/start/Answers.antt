@@ -36,6 +36,7 @@ returns-clause-good c =
         rest = record { formed = tt; from = omega arith; to = omega arith; next = omega arith; small = omega arith };
         passed = omega arith;
         links = subst (λ ls. AreLinks cs (root_of asked) (reverse ls)) (sym c.new.ensures.links) tt;
+        known = tt;
       };
     }
 

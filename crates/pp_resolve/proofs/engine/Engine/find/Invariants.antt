@@ -1,6 +1,6 @@
 use Rattle.std.proofs.Common.{length}
 use Rattle.pp_resolve.specs.Engines.{left, AllWait, Sees, IsSamePlace}
-use Rattle.pp_resolve.proofs.engine.Engine.select.Given as goal
+use Rattle.pp_resolve.proofs.engine.Engine.find.Given as goal
 
 abbrev pub invariant-loop-act : goal.invariant-loop-act
 invariant-loop-act l = record {
