@@ -1,5 +1,5 @@
 -- Between two turns of a run, and what a turn makes of it.
-use Rattle.std.proofs.Common.{◌≡◌, ℕ, suc, ◌+◌, ◌-◌, ◌<◌, ◌≤◌, Bool, true, false, List, [], ◌∷◌, ◌++◌, length, set, replicate, Option, Some, None, refl, ap, sym, ◌∙◌, subst, arith}
+use Rattle.std.proofs.Common.{◌≡◌, ℕ, suc, ◌+◌, ◌-◌, ◌<◌, ◌≤◌, ◌⊎◌, inl, inr, Bool, true, false, List, [], ◌∷◌, ◌++◌, length, set, replicate, Option, Some, None, refl, ap, sym, ◌∙◌, subst, arith}
 use Rattle.std.specs.Prelude.{not, slice_get, Result, Ok, Err, OnErr}
 use Rattle.std.proofs.lemmas.List.{length_push, length-set, length-replicate}
 use Rattle.pp_algebra.specs.Rows.{Row}
@@ -125,6 +125,15 @@ module _ (clauses : Program) (goals : List Asked) (depth : ℕ) (begun : Row) wh
           many = many_next new f;
           flags_are = flags_next new f;
         }
+
+    -- a turn that was broken off leaves the store before it, or the one after it
+    pub either_turn : (turns : ℕ) → made < turns → (next : Row) → (next ≡ store) ⊎ ((a : Asked) → goal_at goals k ≡ Some a → next ≡ store_after store a.goal v) → IsBetweenTurns clauses goals depth turns begun next
+    either_turn turns l next (inl e) = subst (IsBetweenTurns clauses goals depth turns begun) (sym e) (between_turns turns made store (k ∷ later) flags (omega (arith, l)) b)
+    either_turn turns l next (inr f) = go (is_fail v) refl
+      where
+        go : (c : Bool) → is_fail v ≡ c → IsBetweenTurns clauses goals depth turns begun next
+        go true e = subst (IsBetweenTurns clauses goals depth turns begun) (sym (f asked (goal_there goals k low high).1 ∙ ap (store_after store asked.goal) (fail_is v e))) (between_turns turns made store (k ∷ later) flags (omega (arith, l)) b)
+        go false e = between_turns turns (suc made) next (waits_after goals store next later v) (set flags (k - 1) (is_unfinished (Some v))) (omega (arith, l)) (leads_on e next (waits_after goals store next later v) (set flags (k - 1) (is_unfinished (Some v))) f refl refl)
 
     pub fails_now : (turns : ℕ) → made < turns → is_fail v ≡ true → (next : Row) → ((a : Asked) → goal_at goals k ≡ Some a → next ≡ store_after store a.goal v) → (new : List Bool) → new ≡ set flags (k - 1) (is_unfinished (Some v)) → (f : Fixed) → f.end ≡ No → f.turns ≡ made + 1 → f.unfinished ≡ marked 1 new
         → IsFixed clauses goals depth turns begun next f

@@ -1,11 +1,10 @@
 //! What a verdict makes of the store and of the goals that wait.
-ghost use Rattle.std.specs.Prelude.{◌≡◌, ◌-◌, All, IfOk, OnErr, Some, [], not, set, length, nat_eq};
+ghost use Rattle.std.specs.Prelude.{◌≡◌, ◌-◌, ◌⊎◌, All, IfOk, OnErr, Some, [], not, set, length, nat_eq};
 ghost use Rattle.pp_algebra.specs.Canon.{firsts};
 ghost use Rattle.pp_algebra.specs.Terms.{count};
 ghost use Rattle.pp_propagation.specs.Stores.{face, apply};
 ghost use Rattle.pp_propagation.specs.Turns.{woken, store_after};
 ghost use Rattle.pp_propagation.specs.Histories.{is_unfinished};
-ghost use Rattle.pp_term.specs.WellFormed.{IsQuery};
 ghost use Rattle.pp_wake.specs.Waiting.{IsGoalOf};
 ghost use Rattle.pp_store.specs.Kept.{IsStoreOf};
 ghost use Rattle.pp_store.specs.Queries.{goals_in, IsGoalIn, AtGoal};
@@ -13,8 +12,8 @@ ghost use Rattle.pp_find.specs.Meanings.{verdict_by};
 ghost use Rattle.pp_fix.specs.Committing.{IsWideAt, is_fail, waits_after};
 
 use pp_find::Verdict;
-use pp_store::{Applied, Store};
-use pp_term::{Query, Row};
+use pp_store::{GoalIndex, Store};
+use pp_term::Row;
 use pp_wake::Wake;
 use std::alloc::AllocError;
 
@@ -37,60 +36,55 @@ fn wake_all(wake: &mut Wake, goals: &[u32])
     }
 }
 
-/// Applies a row to a goal, and wakes the goals whose face that changed.
+/// Applies a row to a goal, and wakes the goals whose face that changed. After want of memory the row may be applied.
 fn narrow(
-    query: &Query,
+    goals: &GoalIndex,
     store: &mut Store,
     goal: u32,
     given: &Row,
     wake: &mut Wake,
 ) -> Result<(), AllocError>
-    requires query { IsQuery query.now }
-    requires of_query { IsStoreOf query.now store.old }
-    requires goal { IsGoalIn query.now goal }
-    requires given { AtGoal query.now goal (λ g. count given.now.columns ≡ length (face store.old.row g).domains) }
-    requires goals { wake.old.goals ≡ length (goals_in query.now) }
-    ensures store { IfOk result (λ _. AtGoal query.now goal (λ g. store.new.row ≡ apply store.old.row g given.now)) }
-    ensures of_query { IsStoreOf query.now store.new }
+    requires of_query { IsStoreOf goals.now store.old }
+    requires goal { IsGoalIn goals.now goal }
+    requires given { AtGoal goals.now goal (λ g. count given.now.columns ≡ length (face store.old.row g).domains) }
+    requires goals { wake.old.goals ≡ length (goals_in goals.now) }
+    ensures store { IfOk result (λ _. AtGoal goals.now goal (λ g. store.new.row ≡ apply store.old.row g given.now)) }
+    ensures of_query { IsStoreOf goals.now store.new }
     ensures goals { wake.new.goals ≡ wake.old.goals }
-    ensures waiting { IfOk result (λ _. wake.new.waiting ≡ firsts nat_eq wake.old.waiting (woken store.old.row store.new.row [] 1 (goals_in query.now))) }
-    ensures err { OnErr result (store.new ≡ store.old) }
+    ensures waiting { IfOk result (λ _. wake.new.waiting ≡ firsts nat_eq wake.old.waiting (woken store.old.row store.new.row [] 1 (goals_in goals.now))) }
+    ensures err { OnErr result ((store.new.row ≡ store.old.row) ⊎ AtGoal goals.now goal (λ g. store.new.row ≡ apply store.old.row g given.now)) }
 {
-    let Applied {
-        store: next,
-        changed,
-    } = store.apply(query, goal, given)?;
+    let changed = store.apply(goals, goal, given)?;
     wake_all(wake, changed.as_slice());
-    *store = next;
     Ok(())
 }
 
-/// Commits a verdict of the goal that was taken from the list; false where the goal fails.
+/// Commits a verdict of the goal that was taken from the list; false where the goal fails. After want of memory the
+/// store is the one before the turn, or the one after it.
 pub(crate) fn commit(
-    query: &Query,
+    goals: &GoalIndex,
     store: &mut Store,
     goal: u32,
     verdict: Verdict,
     progress: &mut Progress,
 ) -> Result<bool, AllocError>
-    requires query { IsQuery query.now }
-    requires of_query { IsStoreOf query.now store.old }
-    requires goal { IsGoalIn query.now goal }
-    requires wide { AtGoal query.now goal (λ g. IsWideAt (face store.old.row g) (verdict_by verdict)) }
-    requires goals { progress.old.wake.goals ≡ length (goals_in query.now) }
-    requires flags { length progress.old.unfinished.items ≡ length (goals_in query.now) }
+    requires of_query { IsStoreOf goals.now store.old }
+    requires goal { IsGoalIn goals.now goal }
+    requires wide { AtGoal goals.now goal (λ g. IsWideAt (face store.old.row g) (verdict_by verdict)) }
+    requires goals { progress.old.wake.goals ≡ length (goals_in goals.now) }
+    requires flags { length progress.old.unfinished.items ≡ length (goals_in goals.now) }
     ensures fails { IfOk result (λ b. b ≡ not (is_fail (verdict_by verdict))) }
-    ensures store { IfOk result (λ _. AtGoal query.now goal (λ g. store.new.row ≡ store_after store.old.row g (verdict_by verdict))) }
-    ensures of_query { IsStoreOf query.now store.new }
+    ensures store { IfOk result (λ _. AtGoal goals.now goal (λ g. store.new.row ≡ store_after store.old.row g (verdict_by verdict))) }
+    ensures of_query { IsStoreOf goals.now store.new }
     ensures goals { progress.new.wake.goals ≡ progress.old.wake.goals }
-    ensures waiting { IfOk result (λ _. progress.new.wake.waiting ≡ waits_after (goals_in query.now) store.old.row store.new.row progress.old.wake.waiting (verdict_by verdict)) }
+    ensures waiting { IfOk result (λ _. progress.new.wake.waiting ≡ waits_after (goals_in goals.now) store.old.row store.new.row progress.old.wake.waiting (verdict_by verdict)) }
     ensures flags { IfOk result (λ _. progress.new.unfinished.items ≡ set progress.old.unfinished.items (goal - 1) (is_unfinished (Some (verdict_by verdict)))) }
-    ensures err { OnErr result (store.new ≡ store.old) }
+    ensures err { OnErr result ((store.new.row ≡ store.old.row) ⊎ AtGoal goals.now goal (λ g. store.new.row ≡ store_after store.old.row g (verdict_by verdict))) }
 {
     progress.unfinished[goal as usize - 1] = matches!(verdict, Verdict::Unfinished);
     match verdict {
         Verdict::Fail => return Ok(false),
-        Verdict::Narrow(given) => narrow(query, store, goal, &given, &mut progress.wake)?,
+        Verdict::Narrow(given) => narrow(goals, store, goal, &given, &mut progress.wake)?,
         Verdict::Same | Verdict::Nothing | Verdict::Unfinished => {}
     }
     Ok(true)

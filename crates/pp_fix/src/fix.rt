@@ -10,7 +10,7 @@ use crate::commit::{Progress, commit};
 use crate::search::searched;
 use crate::unfinished::listed;
 use pp_clause::Clauses;
-use pp_store::{Store, goal_count};
+use pp_store::{GoalIndex, Store};
 use pp_term::{Numbers, Query};
 use pp_wake::Wake;
 use std::alloc::{AllocError, Global};
@@ -31,6 +31,55 @@ pub struct Fixed {
     pub unfinished: Numbers,
 }
 
+/// Runs the goals from this store, at this depth and in so many turns at most.
+fn run(
+    alloc: Global,
+    clauses: &Clauses,
+    goals: &GoalIndex,
+    store: &mut Store,
+    depth: u32,
+    turns: u64,
+) -> Result<Fixed, AllocError>
+    requires of_query { IsStoreOf goals.now store.old }
+    ensures run { IfOk result (λ f. IsFixed (program clauses.now) (goals_in goals.now) depth turns store.old.row store.new.row f) }
+    ensures whole { OnErr result (IsBetweenTurns (program clauses.now) (goals_in goals.now) depth turns store.old.row store.new.row) }
+    ensures of_query { IsStoreOf goals.now store.new }
+{
+    let count = goals.count();
+    // The room for the list is made before the first turn.
+    let room = Vec::with_capacity(alloc, count as usize)?;
+    let mut progress = Progress {
+        wake: Wake::new(alloc, count)?,
+        unfinished: vec![in alloc; false; count as usize]?,
+    };
+    for turn in 0..turns {
+        let Some(goal) = progress.wake.take() else {
+            return Ok(Fixed {
+                end: End::Yes,
+                turns: turn,
+                unfinished: listed(room, progress.unfinished.as_slice()),
+            });
+        };
+        let verdict = searched(alloc, clauses, goals, store, goal, depth)?;
+        if !commit(goals, store, goal, verdict, &mut progress)? {
+            return Ok(Fixed {
+                end: End::No,
+                turns: turn + 1,
+                unfinished: listed(room, progress.unfinished.as_slice()),
+            });
+        }
+    }
+    let end = match progress.wake.first(0) {
+        None => End::Yes,
+        Some(_) => End::Stopped,
+    };
+    Ok(Fixed {
+        end,
+        turns,
+        unfinished: listed(room, progress.unfinished.as_slice()),
+    })
+}
+
 /// Runs the query's goals from this store, at this depth and in so many turns at most.
 ///
 /// Where a goal fails, the store is as before its turn. After want of memory it is the store after some whole turns.
@@ -48,37 +97,6 @@ pub fn fix_alone(
     ensures whole { OnErr result (IsBetweenTurns (program clauses.now) (goals_in query.now) depth turns store.old.row store.new.row) }
     ensures of_query { IsStoreOf query.now store.new }
 {
-    let goals = u32::try_from(goal_count(query)).map_err(|_| AllocError)?;
-    // The room for the list is made before the first turn.
-    let room = Vec::with_capacity(alloc, goals as usize)?;
-    let mut progress = Progress {
-        wake: Wake::new(alloc, goals)?,
-        unfinished: vec![in alloc; false; goals as usize]?,
-    };
-    for turn in 0..turns {
-        let Some(goal) = progress.wake.take() else {
-            return Ok(Fixed {
-                end: End::Yes,
-                turns: turn,
-                unfinished: listed(room, progress.unfinished.as_slice()),
-            });
-        };
-        let verdict = searched(alloc, clauses, query, store, goal, depth)?;
-        if !commit(query, store, goal, verdict, &mut progress)? {
-            return Ok(Fixed {
-                end: End::No,
-                turns: turn + 1,
-                unfinished: listed(room, progress.unfinished.as_slice()),
-            });
-        }
-    }
-    let end = match progress.wake.first(0) {
-        None => End::Yes,
-        Some(_) => End::Stopped,
-    };
-    Ok(Fixed {
-        end,
-        turns,
-        unfinished: listed(room, progress.unfinished.as_slice()),
-    })
+    let goals = GoalIndex::new(alloc, query)?;
+    run(alloc, clauses, &goals, store, depth, turns)
 }

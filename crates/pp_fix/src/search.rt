@@ -3,7 +3,7 @@ ghost use Rattle.std.specs.Prelude.{◌≡◌, ◌<◌, IfOk};
 ghost use Rattle.pp_algebra.specs.Terms.{count};
 ghost use Rattle.pp_sld.specs.Verdicts.{HasVerdict};
 ghost use Rattle.pp_term.specs.Meanings.{mode_of, program, shape_of};
-ghost use Rattle.pp_term.specs.WellFormed.{arguments_of, IsQuery};
+ghost use Rattle.pp_term.specs.WellFormed.{arguments_of};
 ghost use Rattle.pp_find.specs.Meanings.{verdict_by};
 ghost use Rattle.pp_store.specs.Kept.{IsStoreOf};
 ghost use Rattle.pp_store.specs.Queries.{goals_in, IsGoalIn};
@@ -12,8 +12,8 @@ ghost use Rattle.pp_fix.specs.Committing.{IsVerdictAt};
 use pp_clause::Clauses;
 use pp_find::Verdict;
 use pp_infer::infer_alone;
-use pp_store::{Store, goal_at};
-use pp_term::{Mode, Query, Row, Shape};
+use pp_store::{GoalIndex, Store};
+use pp_term::{Mode, Row, Shape};
 use pp_walk::Steps;
 use std::alloc::{AllocError, Global};
 use std::marker::Brand;
@@ -43,20 +43,17 @@ fn uncounted<L: Ledger>(
 pub(crate) fn searched(
     alloc: Global,
     clauses: &Clauses,
-    query: &Query,
+    goals: &GoalIndex,
     store: &Store,
     goal: u32,
     depth: u32,
 ) -> Result<Verdict, AllocError>
-    requires query { IsQuery query.now }
-    requires of_query { IsStoreOf query.now store.now }
-    requires goal { IsGoalIn query.now goal }
-    ensures verdict { IfOk result (λ v. IsVerdictAt (program clauses.now) (goals_in query.now) depth store.now.row goal (verdict_by v)) }
+    requires of_query { IsStoreOf goals.now store.now }
+    requires goal { IsGoalIn goals.now goal }
+    ensures verdict { IfOk result (λ v. IsVerdictAt (program clauses.now) (goals_in goals.now) depth store.now.row goal (verdict_by v)) }
 {
-    let Some(annotated) = goal_at(query, goal) else {
-        unreachable!()
-    };
-    let face = store.face(query, goal)?;
+    let annotated = goals.at(goal);
+    let face = store.face(goals, goal)?;
     let (shape, mode) = (annotated.shape, annotated.mode);
     uncounted::<Brand>(alloc, Blank::new(1), clauses, shape, mode, &face, depth)
 }

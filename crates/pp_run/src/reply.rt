@@ -60,7 +60,7 @@ fn reply_of(alloc: Global, settings: Settings, program: Program) -> Result<Reply
         settings.depth,
         settings.turns,
     )?;
-    answer(alloc, &names, &query, store.row(), &fixed)
+    answer(alloc, &names, &query, &store.row()?, &fixed)
 }
 
 /// The reply to a text.

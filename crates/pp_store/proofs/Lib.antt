@@ -1,6 +1,15 @@
 pub mod Applying
+mod Candidates
 mod ChangedFaces
 mod Narrowing
 pub mod Numbering
+pub mod Renumbered
+mod Renewing
 mod Solving
-mod Untouched
+mod Stored
+mod FreshNumbers
+mod Lists
+mod Making
+mod Noting
+mod Opening
+mod Planning

@@ -216,7 +216,7 @@ pub all_columns : (p : Row) (m : ℕ) → count p.columns ≡ m → put_all (val
 all_columns p m e = column-all p.columns m 0 (value_in p) e (λ v l. ap (value_in p) (omega arith))
 
 -- a canonical row is numbered already
-numbered_again : (r : Row) → IsCanonical r → canon nat_eq (pattern_of r) ≡ r
+pub numbered_again : (r : Row) → IsCanonical r → canon nat_eq (pattern_of r) ≡ r
 numbered_again r c = covers_antisymmetric (canon nat_eq (pattern_of r)) r (canon-IsCanonical nat_eq nat_eq-IsSame (pattern_of r)) c (canon-covers nat_eq nat_eq-IsSame (pattern_of r)) (covers-canon nat_eq nat_eq-IsSame (pattern_of r))
 
 pub whole_row : (p : Row) (m : ℕ) (ts : List (Tree ℕ)) → IsRow p → count p.columns ≡ m → trees_of ts ≡ variables_from 0 m → row_in p ts ≡ p

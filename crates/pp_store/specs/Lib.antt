@@ -1,4 +1,11 @@
+pub mod Ascending
+pub mod Occurring
 pub mod Queries
+pub mod Naming
 pub mod Kept
 pub mod Deciding
+pub mod Numbers
+pub mod Written
 pub mod Replacing
+pub mod Patterns
+pub mod Changing

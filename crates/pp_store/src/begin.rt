@@ -17,7 +17,7 @@ use pp_unify::Bindings;
 use std::alloc::AllocError;
 
 /// The first cell of a term.
-fn top(term: &Term) -> Cell
+pub(crate) fn top(term: &Term) -> Cell
     ensures top { result ≡ top_of term.now }
     ensures legal { IsLegalCell result }
 {

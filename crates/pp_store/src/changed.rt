@@ -1,67 +1,51 @@
 //! The goals whose face isn't what it was.
-ghost use Rattle.std.specs.Prelude.{◌≡◌, [], IfOk, not, nat_eq};
-ghost use Rattle.pp_algebra.specs.Canon.{same_row};
-ghost use Rattle.pp_algebra.specs.Terms.{count};
-ghost use Rattle.pp_propagation.specs.Stores.{face};
-ghost use Rattle.pp_propagation.specs.Turns.{woken};
-ghost use Rattle.pp_term.specs.WellFormed.{AreBelow, IsQuery};
-ghost use Rattle.pp_store.specs.Queries.{goals_in};
-ghost use Rattle.pp_store.specs.Replacing.{OfGoal, KeepsFaces};
+ghost use Rattle.std.specs.Prelude.{◌≡◌, ℕ, All, IfOk, filter, length, map};
+ghost use Rattle.pp_algebra.specs.Rows.{Row as RowValue};
+ghost use Rattle.pp_store.specs.Changing.{face_at, differs};
+ghost use Rattle.pp_store.specs.Patterns.{row_in, IsSound};
+ghost use Rattle.pp_store.specs.Queries.{goals_in, IsGoalIn};
 
-use crate::rows::{face, face_names};
-use indexmap::IndexSet;
-use pp_term::{Item, Query, Row, Term};
-use std::alloc::{AllocError, Global};
+use crate::goals::GoalIndex;
+use crate::pattern::Pattern;
+use pp_term::Row;
+use std::alloc::AllocError;
 
-/// Whether the face of a goal of these arguments isn't the same under both rows. The faces themselves are compared
-/// only where the goal has one of the variables that were replaced.
-fn is_changed(
-    alloc: Global,
-    old: &Row,
-    new: &Row,
-    replaced: &IndexSet<u32>,
-    arguments: &[Term],
-) -> Result<bool, AllocError>
-    requires old { AreBelow (count old.now.columns) arguments.now }
-    requires new { AreBelow (count new.now.columns) arguments.now }
-    requires keeps { KeepsFaces old.now new.now replaced.now.keys }
-    ensures { IfOk result (λ b. OfGoal arguments.now (λ g. b ≡ not (same_row (face old.now g) (face new.now g)))) }
+/// The faces of these goals.
+pub(crate) fn faces(
+    goals: &GoalIndex,
+    pattern: &Pattern,
+    numbers: &[u32],
+) -> Result<Vec<Row>, AllocError>
+    requires sound { IsSound pattern.now }
+    requires count { length pattern.now.columns.items ≡ goals.now.vars }
+    requires goals { All (IsGoalIn goals.now) numbers.now }
+    ensures { IfOk result (λ faces. faces.items ≡ map (face_at (goals_in goals.now) (row_in pattern.now)) numbers.now) }
 {
-    let names = face_names(alloc, old, arguments)?;
-    if names.is_disjoint(replaced) {
-        return Ok(false);
+    let mut faces = Vec::with_capacity(pattern.alloc, numbers.len())?;
+    for number in numbers {
+        faces.push(pattern.face(goals.at(*number).arguments)?)?;
     }
-    let before = face(alloc, old, arguments)?;
-    let after = face(alloc, new, arguments)?;
-    Ok(!before.same(&after))
+    Ok(faces)
 }
 
-/// The goals whose face isn't the same under both rows, ascending. A goal whose face has none of the variables that were
-/// replaced keeps it.
-pub(crate) fn changed_goals(
-    alloc: Global,
-    query: &Query,
-    old: &Row,
-    new: &Row,
-    replaced: &IndexSet<u32>,
+/// Those of these goals whose face isn't what it was before.
+pub(crate) fn changed(
+    goals: &GoalIndex,
+    pattern: &Pattern,
+    numbers: &[u32],
+    before: &[Row],
 ) -> Result<Vec<u32>, AllocError>
-    requires query { IsQuery query.now }
-    requires old { count old.now.columns ≡ query.now.vars }
-    requires new { count new.now.columns ≡ query.now.vars }
-    requires keeps { KeepsFaces old.now new.now replaced.now.keys }
-    ensures { IfOk result (λ ks. ks.items ≡ woken old.now new.now [] 1 (goals_in query.now)) }
+    requires sound { IsSound pattern.now }
+    requires count { length pattern.now.columns.items ≡ goals.now.vars }
+    requires goals { All (IsGoalIn goals.now) numbers.now }
+    requires many { length before.now ≡ length numbers.now }
+    ensures { IfOk result (λ changed. (old : RowValue) → before.now ≡ map (face_at (goals_in goals.now) old) numbers.now → changed.items ≡ filter (differs (goals_in goals.now) old (row_in pattern.now)) numbers.now) }
 {
-    let mut changed = Vec::new(alloc);
-    let mut before: u32 = 0;
-    for item in query.items.as_slice() {
-        if let Item::Infer(_, arguments, _) = item {
-            let Some(number) = before.checked_add(1) else {
-                return Err(AllocError);
-            };
-            if is_changed(alloc, old, new, replaced, arguments.as_slice())? {
-                changed.push(number)?;
-            }
-            before = number;
+    let mut changed = Vec::new(pattern.alloc);
+    for (i, number) in numbers.iter().enumerate() {
+        let after = pattern.face(goals.at(*number).arguments)?;
+        if !before[i].same(&after) {
+            changed.push(*number)?;
         }
     }
     Ok(changed)

@@ -4,8 +4,13 @@
 mod begin;
 mod changed;
 mod goals;
+mod numbers;
+mod occurrences;
+mod pattern;
+mod renewed;
 mod rows;
 mod store;
+mod writing;
 
-pub use goals::{Annotated, goal_at, goal_count};
-pub use store::{Applied, Store};
+pub use goals::{Annotated, GoalIndex};
+pub use store::Store;

@@ -1,6 +1,5 @@
 //! The store, as a caller sees it.
-ghost use Rattle.std.specs.Prelude.{◌≡◌, [], IfOk, IfSome, MatchOption, length};
-ghost use Rattle.pp_algebra.specs.Rows.{IsRow};
+ghost use Rattle.std.specs.Prelude.{◌≡◌, ◌⊎◌, [], IfOk, IfSome, OnErr, MatchOption, length};
 ghost use Rattle.pp_algebra.specs.Terms.{count};
 ghost use Rattle.pp_propagation.specs.Stores.{Begins, BeginsNowhere, face as face_of, apply as apply_to};
 ghost use Rattle.pp_propagation.specs.Turns.{woken};
@@ -9,36 +8,32 @@ ghost use Rattle.pp_store.specs.Queries.{query_by, goals_in, IsGoalIn, AtGoal};
 ghost use Rattle.pp_store.specs.Kept.{IsStoreOf};
 
 use crate::begin::solve_items;
-use crate::changed::changed_goals;
-use crate::goals::goal_at;
-use crate::rows::{applied, face, face_names, variables};
+use crate::changed::{changed, faces};
+use crate::goals::GoalIndex;
+use crate::pattern::Pattern;
+use crate::rows::variables;
 use pp_term::{Numbers, Query, Row};
 use pp_unify::Bindings;
 use std::alloc::{AllocError, Global};
 use std::marker::Model;
 
-/// What is known of the variables of a query: a row with a column for each of them.
+/// What is known of the variables of a query. A contract sees it as a row with a column for each of them.
 #[derive(Debug, Drop)]
 pub struct Store {
-    alloc: Global,
-    row: Row,
+    pattern: Pattern,
 }
 
 impl Model for Store {
     ghost use Rattle.pp_store.specs.Kept.{Kept, kept_code};
+    ghost use Rattle.pp_store.specs.Patterns.{row_in, IsSound};
 
     ghost Value = { Kept };
 
     ghost coded = { kept_code };
 
-    ghost view = { λ s. record { row = s.row } };
-}
+    ghost view = { λ s. record { row = row_in s.pattern } };
 
-/// A store to which a row was applied, and the goals whose face that changed, ascending.
-#[derive(Debug, Drop)]
-pub struct Applied {
-    pub store: Store,
-    pub changed: Numbers,
+    ghost invariant = { λ s. IsSound s.pattern };
 }
 
 impl Store {
@@ -56,62 +51,50 @@ impl Store {
         }
         let columns = variables(alloc, query.vars)?;
         let row = bindings.resolve_row(columns.as_slice())?;
-        Ok(Some(Store { alloc, row }))
+        Ok(Some(Store {
+            pattern: Pattern::new(alloc, &row)?,
+        }))
     }
 
-    /// The row of the query's variables.
-    pub fn row(&self) -> &Row
-        ensures row { result.now ≡ self.now.row }
+    /// The row of the query's variables. It costs all of it.
+    pub fn row(&self) -> Result<Row, AllocError>
+        ensures { IfOk result (λ r. r ≡ self.now.row) }
     {
-        &self.row
+        self.pattern.row()
     }
 
-    /// The face of the annotated goal of this number, counted from 1.
-    pub fn face(&self, query: &Query, goal: u32) -> Result<Row, AllocError>
-        requires query { IsQuery query.now }
-        requires of_query { IsStoreOf query.now self.now }
-        requires goal { IsGoalIn query.now goal }
-        ensures { IfOk result (λ r. AtGoal query.now goal (λ g. r ≡ face_of self.now.row g)) }
+    /// The face of the goal of this number. It costs the face.
+    pub fn face(&self, goals: &GoalIndex, goal: u32) -> Result<Row, AllocError>
+        requires of_query { IsStoreOf goals.now self.now }
+        requires goal { IsGoalIn goals.now goal }
+        ensures { IfOk result (λ r. AtGoal goals.now goal (λ g. r ≡ face_of self.now.row g)) }
     {
-        let Some(annotated) = goal_at(query, goal) else {
-            unreachable!()
-        };
-        face(self.alloc, &self.row, annotated.arguments)
+        self.pattern.face(goals.at(goal).arguments)
     }
 
-    /// The store once this row is applied to the goal of this number, counted from 1. The row has a column for each
-    /// variable of the goal's face.
-    pub fn apply(&self, query: &Query, goal: u32, given: &Row) -> Result<Applied, AllocError>
-        requires query { IsQuery query.now }
-        requires of_query { IsStoreOf query.now self.now }
-        requires goal { IsGoalIn query.now goal }
-        requires given { AtGoal query.now goal (λ g. count given.now.columns ≡ length (face_of self.now.row g).domains) }
-        ensures store { IfOk result (λ a. AtGoal query.now goal (λ g. a.store.row ≡ apply_to self.now.row g given.now)) }
-        ensures of_query { IfOk result (λ a. IsStoreOf query.now a.store) }
-        ensures changed { IfOk result (λ a. a.changed ≡ woken self.now.row a.store.row [] 1 (goals_in query.now)) }
+    /// Applies a row to the goal of this number, and answers the goals whose face that changed, ascending. The row has
+    /// a column for each variable of the goal's face.
+    ///
+    /// After want of memory the store is as before, or the row is applied.
+    pub fn apply(
+        &mut self,
+        goals: &GoalIndex,
+        goal: u32,
+        given: &Row,
+    ) -> Result<Numbers, AllocError>
+        requires of_query { IsStoreOf goals.now self.old }
+        requires goal { IsGoalIn goals.now goal }
+        requires given { AtGoal goals.now goal (λ g. count given.now.columns ≡ length (face_of self.old.row g).domains) }
+        ensures store { IfOk result (λ _. AtGoal goals.now goal (λ g. self.new.row ≡ apply_to self.old.row g given.now)) }
+        ensures changed { IfOk result (λ ks. ks ≡ woken self.old.row self.new.row [] 1 (goals_in goals.now)) }
+        ensures of_query { IsStoreOf goals.now self.new }
+        ensures err { OnErr result ((self.new.row ≡ self.old.row) ⊎ AtGoal goals.now goal (λ g. self.new.row ≡ apply_to self.old.row g given.now)) }
     {
-        let Some(annotated) = goal_at(query, goal) else {
-            unreachable!()
-        };
-        let row = applied(self.alloc, &self.row, annotated.arguments, given)?;
-        let replaced = face_names(self.alloc, &self.row, annotated.arguments)?;
-        let changed = changed_goals(self.alloc, query, &self.row, &row, &replaced)?;
-        Ok(Applied {
-            store: Store {
-                alloc: self.alloc,
-                row,
-            },
-            changed: Numbers::from_vec(changed),
-        })
-    }
-
-    /// A copy.
-    pub fn copy(&self) -> Result<Store, AllocError>
-        ensures { IfOk result (λ s. s ≡ self.now) }
-    {
-        Ok(Store {
-            alloc: self.alloc,
-            row: self.row.copy()?,
-        })
+        let change = self.pattern.change(goals.at(goal).arguments, given)?;
+        let candidates = goals.naming(change.touched.as_slice())?;
+        let before = faces(goals, &self.pattern, &candidates)?;
+        self.pattern.make(change)?;
+        let changed = changed(goals, &self.pattern, &candidates, &before)?;
+        Ok(Numbers::from_vec(changed))
     }
 }

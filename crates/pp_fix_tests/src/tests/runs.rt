@@ -14,7 +14,7 @@ fn expect_run(rt: &impl Abort, alloc: Global, text: &str, turns: u64, wanted: (E
     let fixed = fixed.expect(rt, "memory");
     assert_eq!(rt; (fixed.end, fixed.turns), (wanted.0, wanted.1));
     assert!(rt; fixed.unfinished.as_slice().is_empty());
-    expect_row(rt, alloc, store.row(), wanted.2);
+    expect_row(rt, alloc, &store.row().expect(rt, "memory"), wanted.2);
 }
 
 #[test]

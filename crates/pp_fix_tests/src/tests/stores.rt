@@ -1,10 +1,9 @@
 //! Stores, faces and rows that are applied.
-ghost use Rattle.pp_term.specs.WellFormed.{IsQuery};
 ghost use Rattle.pp_store.specs.Kept.{IsStoreOf};
 
 use super::samples::{begun, expect_row, query};
-use pp_store::{Store, goal_count};
-use pp_term::{Query, Row};
+use pp_store::{GoalIndex, Store};
+use pp_term::Row;
 use std::alloc::Global;
 use std::process::Abort;
 
@@ -13,7 +12,8 @@ const CHAIN: &str = "p(1,2). p(2,3). ?- p(X,Y) infers most, p(Y,Z) infers most."
 /// The query's store begins with this row.
 fn expect_begun(rt: &impl Abort, alloc: Global, text: &str, wanted: &str) {
     let query = query(rt, alloc, text);
-    expect_row(rt, alloc, begun(rt, alloc, &query).row(), wanted);
+    let row = begun(rt, alloc, &query).row().expect(rt, "memory");
+    expect_row(rt, alloc, &row, wanted);
 }
 
 #[test]
@@ -44,15 +44,14 @@ fn expect_face(
     rt: &impl Abort,
     alloc: Global,
     store: &Store,
-    query: &Query,
+    goals: &GoalIndex,
     goal: u32,
     wanted: &str,
 )
-    requires query { IsQuery query.now }
-    requires of_query { IsStoreOf query.now store.now }
+    requires of_query { IsStoreOf goals.now store.now }
 {
-    assert!(rt; 1 <= goal && goal as usize <= goal_count(query));
-    let face = store.face(query, goal).expect(rt, "memory");
+    assert!(rt; 1 <= goal && goal <= goals.count());
+    let face = store.face(goals, goal).expect(rt, "memory");
     expect_row(rt, alloc, &face, wanted);
 }
 
@@ -60,41 +59,33 @@ fn expect_face(
 fn expect_applied(
     rt: &impl Abort,
     alloc: Global,
-    store: &Store,
-    query: &Query,
+    store: &mut Store,
+    goals: &GoalIndex,
     goal: u32,
     given: &Row,
     wanted: (&str, &[u32]),
 )
-    requires query { IsQuery query.now }
-    requires of_query { IsStoreOf query.now store.now }
+    requires of_query { IsStoreOf goals.now store.old }
 {
-    assert!(rt; 1 <= goal && goal as usize <= goal_count(query));
-    let face = store.face(query, goal).expect(rt, "memory");
+    assert!(rt; 1 <= goal && goal <= goals.count());
+    let face = store.face(goals, goal).expect(rt, "memory");
     let columns = given.columns();
     let domains = face.domains();
     assert!(rt; columns.len() == domains.len());
-    let applied = store.apply(query, goal, given).expect(rt, "memory");
-    expect_row(rt, alloc, applied.store.row(), wanted.0);
-    assert_eq!(rt; applied.changed.as_slice(), wanted.1);
+    let changed = store.apply(goals, goal, given).expect(rt, "memory");
+    expect_row(rt, alloc, &store.row().expect(rt, "memory"), wanted.0);
+    assert_eq!(rt; changed.as_slice(), wanted.1);
 }
 
 #[test]
 fn a_row_is_applied_to_a_goal(rt: HostRuntime) {
     let alloc = rt.alloc();
     let chain = query(&rt, alloc, CHAIN);
-    let store = begun(&rt, alloc, &chain);
-    expect_face(&rt, alloc, &store, &chain, 2, "_0, _1");
+    let mut store = begun(&rt, alloc, &chain);
+    let goals = GoalIndex::new(alloc, &chain).expect(&rt, "memory");
+    expect_face(&rt, alloc, &store, &goals, 2, "_0, _1");
     let ranges = query(&rt, alloc, "?- A :: 1..2, B :: 2..3.");
-    let given = begun(&rt, alloc, &ranges);
+    let given = begun(&rt, alloc, &ranges).row().expect(&rt, "memory");
     let wanted = "_0, _1, _2 | _0 :: [1..2], _1 :: [2..3]";
-    expect_applied(
-        &rt,
-        alloc,
-        &store,
-        &chain,
-        1,
-        given.row(),
-        (wanted, &[1, 2]),
-    );
+    expect_applied(&rt, alloc, &mut store, &goals, 1, &given, (wanted, &[1, 2]));
 }

@@ -7,7 +7,7 @@ use Rattle.pp_fix.proofs.commit.commit.Goals as goal
 
 pub returns-in_ok-narrow-in-Narrow-clause-waiting : goal.returns-in_ok-narrow-in-Narrow-clause-waiting
 returns-in_ok-narrow-in-Narrow-clause-waiting c =
-    let gs = goals_in c.args.query.now in
+    let gs = goals_in c.args.goals.now in
     let old = c.args.store.now.row in
     let new = c.narrow.new.store.row in
     let later = c.args.progress.now.wake.waiting in

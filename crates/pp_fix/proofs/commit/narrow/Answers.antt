@@ -7,6 +7,6 @@ use Rattle.pp_fix.proofs.commit.narrow.Goals as goal
 
 pub wake_all-requires : goal.wake_all-requires
 wake_all-requires c =
-    let gs = goals_in c.args.query.now in
-    let e : c.as_slice.result.now ≡ woken c.args.store.now.row c.in_ok-next.field-0.store.row [] 1 gs = c.as_slice.ensures ∙ c.in_ok-next.ensures.changed in
-    record { goals = subst (λ n. All (IsGoalOf n) c.as_slice.result.now) (sym c.requires.goals) (subst (λ ks. All (IsGoalOf (length gs)) ks) (sym e) (woken_are_goals c.args.store.now.row c.in_ok-next.field-0.store.row gs)) }
+    let gs = goals_in c.args.goals.now in
+    let e : c.as_slice.result.now ≡ woken c.args.store.now.row c.apply.new.self.row [] 1 gs = c.as_slice.ensures ∙ c.in_ok-changed.ensures.changed in
+    record { goals = subst (λ n. All (IsGoalOf n) c.as_slice.result.now) (sym c.requires.goals) (subst (λ ks. All (IsGoalOf (length gs)) ks) (sym e) (woken_are_goals c.args.store.now.row c.apply.new.self.row gs)) }

@@ -43,7 +43,7 @@ returns-clause-begins c =
     let decided = subst (λ b. AreDecided p (items_in q.items) b r) c.if-not-branch.false (subst (λ es. AreDecided p (items_in es) c.in_ok-solve_items.field-0 r) c.as_slice.ensures c.in_ok-solve_items.ensures.decided) in
     let begun = decided_begins q c.requires.query p r fresh decided in
     let same = c.in_ok-row.ensures ∙ whole_row r q.vars c.as_slice-2.result.now begun.row (begun-count q r begun) (ap (λ ts. trees_of ts) c.as_slice-2.ensures.value ∙ c.in_ok-columns.ensures) in
-    subst (λ x. Begins (query_by q) x) (sym same) begun
+    subst (λ x. Begins (query_by q) x) (sym (c.in_ok-new.ensures.row ∙ same)) begun
 
 pub returns-clause-of_query : goal.returns-clause-of_query
 returns-clause-of_query c =
@@ -54,4 +54,4 @@ returns-clause-of_query c =
     let decided = subst (λ b. AreDecided p (items_in q.items) b r) c.if-not-branch.false (subst (λ es. AreDecided p (items_in es) c.in_ok-solve_items.field-0 r) c.as_slice.ensures c.in_ok-solve_items.ensures.decided) in
     let begun = decided_begins q c.requires.query p r fresh decided in
     let same = c.in_ok-row.ensures ∙ whole_row r q.vars c.as_slice-2.result.now begun.row (begun-count q r begun) (ap (λ ts. trees_of ts) c.as_slice-2.ensures.value ∙ c.in_ok-columns.ensures) in
-    ap (λ x. count x.columns) same ∙ begun-count q r begun
+    ap (λ x. count x.columns) (c.in_ok-new.ensures.row ∙ same) ∙ begun-count q r begun
