@@ -1,0 +1,29 @@
+use Rattle.std.proofs.Common.{◌≡◌, ◌∙◌, sym, ap, subst}
+use Rattle.pp_cell.specs.Passes.{pass_space, pass_value}
+use Rattle.pp_worker.proofs.Desks.{still_below}
+use Rattle.pp_worker.proofs.report.send.Goals as goal
+
+pub invariant_of-desk : goal.invariant_of-desk
+invariant_of-desk g c =
+    let law = g.met.E.Lattice g.world.𝓛 g.world.𝓜 g.world.𝓡 ((λ _ x. x), (λ x. x), (λ x. x), λ x. x) in
+    let d = c.args.desk.now in
+    let q = c.report.new.pass in
+    let space : pass_space q ≡ pass_space d.pass = c.report.ensures.pass.space in
+    record {
+      fits = subst (λ x. ∥ g.E.Lattice.fits x d.seen ∥₁) (sym space) d.fits;
+      below = still_below g.E.Lattice.fits g.E.Lattice.joined law.associative (pass_space d.pass) (pass_space q) d.seen (pass_value d.pass) (pass_value q) space d.fits d.pass.fits q.fits d.below c.report.ensures.grows;
+      belongs = subst (λ x. ∥ g.E.Explorer.belongs x d.walker ∥₁) (sym space) d.belongs;
+    }
+
+pub invariant_of-desk-2 : goal.invariant_of-desk-2
+invariant_of-desk-2 g c =
+    let law = g.met.E.Lattice g.world.𝓛 g.world.𝓜 g.world.𝓡 ((λ _ x. x), (λ x. x), (λ x. x), λ x. x) in
+    let d = c.args.desk.now in
+    let q = c.report.new.pass in
+    let space : pass_space q ≡ pass_space d.pass = c.report.ensures.pass.space in
+    let is : c.in_ok-accepted.field-0.seen ≡ pass_value q = c.in_ok-accepted.ensures.seen in
+    record {
+      fits = subst (λ v. ∥ g.E.Lattice.fits (pass_space q) v ∥₁) (sym is) q.fits;
+      below = ap (λ v. g.E.Lattice.joined (pass_space q) v (pass_value q)) is ∙ law.idempotent (pass_space q) (pass_value q) q.fits;
+      belongs = subst (λ x. ∥ g.E.Explorer.belongs x d.walker ∥₁) (sym space) d.belongs;
+    }

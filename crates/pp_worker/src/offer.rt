@@ -1,0 +1,53 @@
+//! A worker offers what is left of a task.
+ghost use Rattle.std.specs.Prelude.{◌≡◌, ◌++◌, IfOk, OnOk};
+ghost use Rattle.pp_deal.specs.Hands.{SameHand, offered};
+ghost use Rattle.pp_worker.specs.Turns.{offers_if};
+
+use pp_cell::Accepted;
+use pp_deal::Hand;
+use pp_space::Space;
+use std::alloc::{AllocError, Global};
+
+/// The tasks, copied.
+pub(crate) fn copy_tasks<S: Space>(
+    alloc: Global,
+    space: &S,
+    tasks: &[S::Task],
+) -> Result<Vec<S::Task>, AllocError>
+    ensures { IfOk result (λ copies. copies.items ≡ tasks.now) }
+{
+    let mut copies = Vec::with_capacity(alloc, tasks.len())?;
+    for i in 0..tasks.len() {
+        copies.push_reserved(space.copy_task(&tasks[i])?);
+    }
+    Ok(copies)
+}
+
+/// Offers all of them, in order.
+fn offer_all<T: Drop>(hand: &mut Hand<T>, mut tasks: Vec<T>) -> Result<(), AllocError>
+    ensures hand { SameHand hand.old hand.new }
+    ensures offered { OnOk result (offered hand.new ≡ offered hand.old ++ tasks.items) }
+{
+    while !tasks.is_empty() {
+        let Ok(()) = hand.offer(tasks.remove(0)) else {
+            return Err(AllocError);
+        };
+    }
+    Ok(())
+}
+
+/// Offers the rest of a report that counts while the search goes on.
+pub(crate) fn offer_if_taken<T: Drop>(
+    hand: &mut Hand<T>,
+    accepted: Accepted,
+    rest: Vec<T>,
+) -> Result<(), AllocError>
+    ensures hand { SameHand hand.old hand.new }
+    ensures offered { OnOk result (offered hand.new ≡ offered hand.old ++ offers_if accepted rest.items) }
+{
+    match accepted {
+        Accepted::Taken => offer_all(hand, rest),
+        Accepted::Settled => Ok(()),
+        Accepted::Stale => Ok(()),
+    }
+}
