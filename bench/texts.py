@@ -1,6 +1,7 @@
 #!/usr/bin/env python3
 """Prints a text to be timed, by its name. With the word `prolog` behind it, the clauses for a Prolog system and the
 goal, in a last line."""
+import random
 import sys
 
 
@@ -67,8 +68,32 @@ def table():
 
 
 def gaps(count=10000):
-    """10,000 facts of one integer each, with gaps between them."""
+    """Facts of one integer each, with gaps between them."""
     return "".join(f"t({3 * i}).\n" for i in range(count)), "t(X)"
+
+
+def shuffled(count=60000):
+    """The same, in an order without a pattern."""
+    values = [3 * i for i in range(count)]
+    random.Random(1).shuffle(values)
+    return "".join(f"t({value}).\n" for value in values), "t(X)"
+
+
+def deep(count=60000):
+    """The same, with each integer inside a term."""
+    return "".join(f"t(f(b,g({3 * i}))).\n" for i in range(count)), "t(X)"
+
+
+def pairs(count=60000):
+    """Facts of two such integers, in orders that differ."""
+    return "".join(f"t({3 * i},{3 * (i * 7919 % count)}).\n" for i in range(count)), "t(X,Y)"
+
+
+def bounded(count=60000):
+    """Integers of a finite domain in an order without a pattern: all of them but one."""
+    values = list(range(1, count))
+    random.Random(1).shuffle(values)
+    return "".join(f"t({value}).\n" for value in values) + f"?- X :: 0..{count - 1}, t(X) infers most.\n"
 
 
 def wide():
@@ -101,8 +126,8 @@ def sudoku():
     return PERMUTE + f"g({','.join(names)}) :- perm(c(1,c(2,c(3,c(4,c(5,c(6,nil)))))),{chain(names)}).\n?- {goals}.\n"
 
 
-GOALS = {"reverse": reverse, "peano": peano, "scan": scan, "queens": queens, "permutations": permutations, "early": early, "table": table, "gaps": gaps, "wide": wide}
-QUERIES = {"adder100": lambda: adder(100), "adder999": lambda: adder(999), "ring": ring, "sudoku": sudoku}
+GOALS = {"reverse": reverse, "peano": peano, "scan": scan, "queens": queens, "permutations": permutations, "early": early, "table": table, "gaps": gaps, "gaps60000": lambda: gaps(60000), "shuffled": shuffled, "deep": deep, "pairs": pairs, "wide": wide}
+QUERIES = {"adder100": lambda: adder(100), "adder999": lambda: adder(999), "ring": ring, "sudoku": sudoku, "bounded": bounded}
 
 
 def main():

@@ -16,7 +16,7 @@ parts most call g h f = (f.0, f.1)
 parts unique call g h f = absurd f
 parts consistent call g h f = absurd f
 
-alike : (call : Row) (g k : Option Row) → ∥ UnderIfSome call g ∥₁ → ∥ UnderIfSome call k ∥₁ → AreAlike g k
+pub alike : (call : Row) (g k : Option Row) → ∥ UnderIfSome call g ∥₁ → ∥ UnderIfSome call k ∥₁ → AreAlike g k
 alike call None k x y = tt
 alike call (Some r) None x y = tt
 alike call (Some r) (Some q) x y = ∥∥₁_elim x (Coded-set coded_ℕ _ _) (λ a. ∥∥₁_elim y (Coded-set coded_ℕ _ _) (λ b. sym (count-covers call r a.0) ∙ count-covers call q b.0))

@@ -2,61 +2,56 @@
 ghost use Rattle.std.specs.Prelude.{◌≡◌, IfOk};
 ghost use Rattle.pp_sld.specs.Findings.{empty};
 ghost use Rattle.pp_term.specs.Meanings.{mode_of};
-ghost use Rattle.pp_find.specs.Meanings.{finding_by, outcome_by, FitsIn};
+ghost use Rattle.pp_find.specs.Meanings.{finding_by, outcome_by};
 
-use pp_find::{Finding, Findings, Verdict};
+use pp_find::{Collector, Verdict};
 use pp_row::Row;
-use pp_space::Lattice;
 use pp_term::Mode;
 use pp_walk::Gatherer;
 use std::alloc::{AllocError, Global};
 
-/// What a walk has found: a finding of this mode and call, changed in place as leaves come in.
+/// What a walk has found, as a collector of this mode and call keeps it.
 #[derive(Drop)]
 pub(crate) struct Gathered {
-    findings: Findings,
-    finding: Finding,
-    ghost fits: { ∥ FitsIn (mode_of findings.mode) findings.call finding ∥₁ },
+    collector: Collector,
 }
 
 impl Gathered {
     /// Nothing yet.
     pub(crate) fn new(alloc: Global, mode: Mode, call: Row) -> Gathered
-        ensures mode { result.findings.mode ≡ mode }
-        ensures call { result.findings.call ≡ call }
-        ensures empty { finding_by result.finding ≡ empty (mode_of mode) }
+        ensures mode { result.collector.mode ≡ mode }
+        ensures call { result.collector.call ≡ call }
+        ensures empty { finding_by result.collector.finding ≡ empty (mode_of mode) }
     {
-        let findings = Findings::new(alloc, mode, call);
-        let finding = findings.empty();
-        Gathered { findings, finding }
+        Gathered {
+            collector: Collector::new(alloc, mode, call),
+        }
     }
 
     /// What the finding comes to.
-    pub(crate) fn verdict(&self) -> Result<Verdict, AllocError>
-        ensures { IfOk result (λ v. v ≡ outcome_by self.now.findings.call self.now.finding) }
+    pub(crate) fn verdict(&mut self) -> Result<Verdict, AllocError>
+        ensures { IfOk result (λ v. v ≡ outcome_by self.old.collector.call self.old.collector.finding) }
     {
-        self.findings.outcome(&self.finding)
+        self.collector.outcome()
     }
 }
 
 impl Gatherer for Gathered {
-    ghost mode = { λ s. mode_of s.findings.mode };
+    ghost mode = { λ s. mode_of s.collector.mode };
 
-    ghost call = { λ s. s.findings.call };
+    ghost call = { λ s. s.collector.call };
 
-    ghost finding = { λ s. finding_by s.finding };
+    ghost finding = { λ s. finding_by s.collector.finding };
 
     fn add_answer(&mut self, row: Row) -> Result<(), AllocError> {
-        let Gathered { findings, finding } = self;
-        findings.take_answer(finding, row)
+        self.collector.add_answer(row)
     }
 
     fn add_loose(&mut self, row: Row) -> Result<(), AllocError> {
-        let Gathered { findings, finding } = self;
-        findings.take_loose(finding, &row)
+        self.collector.add_loose(row)
     }
 
     fn is_settled(&self) -> bool {
-        self.findings.settled(&self.finding)
+        self.collector.is_settled()
     }
 }

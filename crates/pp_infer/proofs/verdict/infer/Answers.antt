@@ -11,6 +11,6 @@ gather-requires-clause-under g c =
 pub returns-clause-verdict : goal.returns-clause-verdict
 returns-clause-verdict g c =
     map_ok c.verdict.result
-    (λ v e shape face depth at called. is_verdict (g.M.SearchMachine.clauses c.args.machine.now) (g.M.SearchMachine.place c.args.machine.now) c.args.call (mode_of c.args.mode) shape face depth at called (finding_by c.gather.new.gathered.finding) v
+    (λ v e shape face depth at called. is_verdict (g.M.SearchMachine.clauses c.args.machine.now) (g.M.SearchMachine.place c.args.machine.now) c.args.call (mode_of c.args.mode) shape face depth at called (finding_by c.gather.new.gathered.collector.finding) v
     (rw (c.in_ok-gather.ensures.call ∙ c.new-gathered.ensures.call) at e) (rw c.new-gathered.ensures.mode at (rw c.new-gathered.ensures.call at c.in_ok-gather.ensures.finding)))
     c.verdict.ensures
