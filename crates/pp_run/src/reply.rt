@@ -60,7 +60,8 @@ fn reply_of(alloc: Global, settings: Settings, program: Program) -> Result<Reply
         settings.depth,
         settings.turns,
     )?;
-    answer(alloc, &names, &query, &store.row()?, &fixed)
+    let row = store.row()?;
+    answer(alloc, &names, &query, &row, &fixed)
 }
 
 /// The reply to a text.

@@ -22,4 +22,4 @@ returns c =
     let f = c.in_ok-fixed.fixed in
     both_ok _ _ _ c.answer.result (λ r t u. λ text writes.
     run_reply c.args.settings c.args.program text writes r.status r.bytes.items c.in_ok-table.table c.in_ok-table.ensures c.in-Some.store.row c.fix_alone.new.store.row f begins c.in_ok-fixed.ensures.run t
-    (u ∙ ap (λ x. answer_text c.args.program.names named x f.unfinished (end_by f.end)) c.row.ensures.row)) c.answer.ensures.status c.answer.ensures.text
+    (u ∙ ap (λ x. answer_text c.args.program.names named x f.unfinished (end_by f.end)) c.in_ok-row.ensures)) c.answer.ensures.status c.answer.ensures.text
