@@ -1,13 +1,13 @@
 -- Rows that stand for what they have in common: one more, one that is covered, the last two joined.
-use Rattle.std.proofs.Common.{◌≡◌, ℕ, zero, suc, ◌<◌, ◌≤◌, ◌+◌, ◌-◌, arith, List, [], ◌∷◌, ◌++◌, length, get_or, take, set, Option, Some, None, refl, ap, sym, ◌∙◌, subst, inl, inr}
+use Rattle.std.proofs.Common.{◌≡◌, ℕ, zero, suc, ◌<◌, ◌≤◌, ◌+◌, ◌-◌, arith, List, [], ◌∷◌, ◌++◌, length, get_or, take, set, Option, Some, None, refl, ap, sym, ◌∙◌, subst, inl}
 use Rattle.std.proofs.Math.Logic.{∥∥₁_elim, ∥∥₁_map, ∥∥₁_prop}
-use Rattle.std.proofs.lemmas.List.{take_more, take_all, set_at, length-take-le, get_or_default, append_assoc}
+use Rattle.std.proofs.lemmas.List.{take_more, take_all, set_at, length-take-le, append_assoc}
 use Rattle.std.specs.Coded.{Coded-set, coded_option, coded_ℕ}
 use Rattle.pp_algebra.specs.Terms.{count}
-use Rattle.pp_algebra.specs.Rows.{Row, IsCanonical, pattern_of}
-use Rattle.pp_algebra.specs.Covers.{IsIn, RowCovers}
+use Rattle.pp_algebra.specs.Rows.{Row, pattern_of}
+use Rattle.pp_algebra.specs.Covers.{RowCovers}
 use Rattle.pp_algebra.specs.Least.{least_row}
-use Rattle.pp_algebra.proofs.Law.{least_row-covers, count-covers}
+use Rattle.pp_algebra.proofs.Law.{least_row-covers}
 use Rattle.pp_algebra.proofs.Order.{covers_itself}
 use Rattle.pp_row.specs.Codes.{row_code}
 use Rattle.pp_sld.specs.Verdicts.{most}

@@ -1,5 +1,5 @@
 -- What is kept of leaves: rows that bound the answers, and one row more.
-use Rattle.std.proofs.Common.{◌≡◌, ℕ, Bool, true, false, List, [], ◌∷◌, Option, Some, None, refl, ap, sym, ◌∙◌, subst}
+use Rattle.std.proofs.Common.{◌≡◌, Bool, true, false, List, [], ◌∷◌, Option, Some, None, refl, ap, sym, ◌∙◌, subst}
 use Rattle.std.proofs.Math.Logic.{∥∥₁_elim, ∥∥₁_map, ∥∥₁_prop}
 use Rattle.std.specs.Coded.{Coded-set, coded_option, coded_ℕ, coded_bool}
 use Rattle.std.specs.Option.{IfSome}
@@ -7,14 +7,13 @@ use Rattle.pp_algebra.specs.Terms.{count}
 use Rattle.pp_algebra.specs.Rows.{Row, IsCanonical}
 use Rattle.pp_algebra.specs.Canon.{same_row}
 use Rattle.pp_algebra.specs.Covers.{RowCovers}
-use Rattle.pp_algebra.specs.Least.{least_row}
 use Rattle.pp_algebra.proofs.Law.{count-covers}
 use Rattle.pp_algebra.proofs.SameRow.{same_row-sound}
 use Rattle.pp_row.specs.Codes.{row_code}
 use Rattle.pp_sld.specs.Findings.{finds_most, join_option, settled}
 use Rattle.pp_sld.specs.Lattice.{IsUnder, UnderIfSome, CoversIfSome}
 use Rattle.pp_sld.proofs.Joining.{covers-two}
-use Rattle.pp_find.specs.Common.{common, LieUnder, AreUnder, AreUnderOne, IsBound, Keeps}
+use Rattle.pp_find.specs.Common.{common, AreUnder, AreUnderOne, IsBound, Keeps}
 use Rattle.pp_find.specs.Meanings.{AreAlike}
 use Rattle.pp_find.proofs.Alike.{alike}
 use Rattle.pp_find.proofs.Commons.{common-under, under, grouped, swapped}
@@ -106,11 +105,11 @@ module _ (call : Row) where
 
   pub answer-more : (xs ys zs : List Row) (r : Row) → AreUnder call xs → AreUnder call zs → IsUnder call r → common ys ≡ join_option (common xs) (Some r) → join_option (common ys) (common zs) ≡ join_option (join_option (common xs) (common zs)) (Some r)
   answer-more xs ys zs r x z u e = ∥∥₁_elim x (Coded-set (coded_option row_code) _ _) (λ h. ∥∥₁_elim z (Coded-set (coded_option row_code) _ _) (λ k.
-    ap (λ g. join_option g (common zs)) e ∙ swapped call (common xs) (Some r) (common zs) (common-under call xs h) u (common-under call zs k)))
+      ap (λ g. join_option g (common zs)) e ∙ swapped call (common xs) (Some r) (common zs) (common-under call xs h) u (common-under call zs k)))
 
   pub loose-more : (xs zs ws : List Row) (r : Row) → AreUnder call xs → AreUnder call zs → IsUnder call r → common ws ≡ join_option (common zs) (Some r) → join_option (common xs) (common ws) ≡ join_option (join_option (common xs) (common zs)) (Some r)
   loose-more xs zs ws r x z u e = ∥∥₁_elim x (Coded-set (coded_option row_code) _ _) (λ h. ∥∥₁_elim z (Coded-set (coded_option row_code) _ _) (λ k.
-    ap (join_option (common xs)) e ∙ sym (grouped call (common xs) (common zs) (Some r) (common-under call xs h) (common-under call zs k) u)))
+      ap (join_option (common xs)) e ∙ sym (grouped call (common xs) (common zs) (Some r) (common-under call xs h) (common-under call zs k) u)))
 
   -- a loose end that an answer covers
   pub loose-known : (xs zs : List Row) (r : Row) → AreUnder call xs → AreUnder call zs → IsUnder call r → common xs ≡ join_option (common xs) (Some r) → join_option (common xs) (common zs) ≡ join_option (join_option (common xs) (common zs)) (Some r)

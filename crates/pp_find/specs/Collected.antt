@@ -1,5 +1,5 @@
 -- What a collector stands for: a finding of a mode and a call.
-use Rattle.std.specs.Prelude.{◌≡◌, refl}
+use Rattle.std.specs.Prelude.{refl}
 use Rattle.std.specs.Coded.{Coded, code_by, coded×}
 use Rattle.pp_algebra.specs.Rows.{Row}
 use Rattle.pp_row.specs.Codes.{row_code}

@@ -1,6 +1,5 @@
 use Rattle.std.proofs.Common.{◌≡◌, rules, length, ap, sym, ◌∙◌}
 use Rattle.pp_algebra.specs.Terms.{count}
-use Rattle.pp_find.specs.Common.{IsBound}
 use Rattle.pp_find.proofs.Widths.{count-trees_of}
 use Rattle.pp_find.proofs.bound.checked.Goals as goal
 

@@ -1,4 +1,4 @@
-use Rattle.std.proofs.Common.{rules, arith, ◌≤◌, Some, None, sym, subst}
+use Rattle.std.proofs.Common.{arith, ◌≤◌, Some, None, sym, subst}
 use Rattle.std.proofs.lemmas.List.Elements.{All-nil}
 use Rattle.std.specs.FinSet as set
 use Rattle.pp_algebra.specs.Rows.{IsWide, AreWide}

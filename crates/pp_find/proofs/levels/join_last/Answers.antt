@@ -1,5 +1,4 @@
-use Rattle.std.proofs.Common.{rules, ◌≡◌, sym, ap, ◌∙◌, subst}
-use Rattle.pp_find.specs.Common.{common, AreUnder}
+use Rattle.std.proofs.Common.{rules}
 use Rattle.pp_find.proofs.Commons.{widths-at, joined-same, joined-stay}
 use Rattle.pp_find.proofs.levels.join_last.Goals as goal
 

@@ -1,11 +1,10 @@
-use Rattle.std.proofs.Common.{◌≡◌, Some, subst}
-use Rattle.pp_algebra.specs.Rows.{Row}
+use Rattle.std.proofs.Common.{◌≡◌, subst}
 use Rattle.pp_term.specs.Meanings.{mode_of}
 use Rattle.pp_sld.specs.Findings.{finds_most, join_option}
-use Rattle.pp_sld.specs.Lattice.{add_answer, add_loose}
-use Rattle.pp_find.specs.Common.{common, IsKept}
+use Rattle.pp_sld.specs.Lattice.{add_loose}
+use Rattle.pp_find.specs.Common.{common}
 use Rattle.pp_find.specs.Meanings.{FitsIn, finding_by}
-use Rattle.pp_find.specs.Collected.{found_by, IsKnown}
+use Rattle.pp_find.specs.Collected.{found_by}
 use Rattle.pp_find.proofs.Taking.{loose_most, loose_fits}
 use Rattle.pp_find.proofs.known.Known.add_loose.Goals as goal
 

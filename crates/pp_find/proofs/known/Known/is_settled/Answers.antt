@@ -1,9 +1,7 @@
 use Rattle.std.proofs.Common.{subst}
-use Rattle.pp_term.specs.Meanings.{mode_of}
 use Rattle.pp_sld.specs.Findings.{join_option}
 use Rattle.pp_find.specs.Common.{common}
-use Rattle.pp_find.specs.Meanings.{FitsIn}
-use Rattle.pp_find.specs.Collected.{found_by, IsKnown}
+use Rattle.pp_find.specs.Collected.{IsKnown}
 use Rattle.pp_find.proofs.Kept.{kept-told}
 use Rattle.pp_find.proofs.known.Known.is_settled.Goals as goal
 

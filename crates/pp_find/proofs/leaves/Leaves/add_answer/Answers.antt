@@ -1,4 +1,4 @@
-use Rattle.std.proofs.Common.{◌∷◌, refl}
+use Rattle.std.proofs.Common.{◌∷◌}
 use Rattle.pp_find.proofs.Kept.{answers-under, loose-under, some-under, more-under, keeps-same, keeps-bounded}
 use Rattle.pp_find.proofs.leaves.Leaves.add_answer.Goals as goal
 

@@ -1,4 +1,3 @@
-use Rattle.std.proofs.Common.{sym}
 use Rattle.pp_find.proofs.Kept.{bound-width}
 use Rattle.pp_find.proofs.leaves.Leaves.is_bounded.Goals as goal
 

@@ -1,4 +1,4 @@
-use Rattle.std.proofs.Common.{◌∷◌, [], sym, subst}
+use Rattle.std.proofs.Common.{◌∷◌, sym, subst}
 use Rattle.pp_find.specs.Common.{Keeps}
 use Rattle.pp_find.proofs.Kept.{answers-under, loose-under, some-under, more-under, keeps-same, keeps-whole, whole-width}
 use Rattle.pp_find.proofs.leaves.Leaves.weigh.Goals as goal
