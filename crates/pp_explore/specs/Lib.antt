@@ -1,0 +1,3 @@
+pub mod Standing
+pub mod Exploring
+pub mod Searching
