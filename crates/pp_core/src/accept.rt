@@ -3,6 +3,7 @@ ghost use Rattle.std.specs.Prelude.{◌≡◌, ◌<◌, ◌≤◌, ◌+◌, true
 ghost use Rattle.pp_core.specs.Runs.{is_live, without, state, after, is_done, answer_if};
 ghost use Rattle.pp_core.specs.Worths.{with_worths, IsFit};
 
+use crate::tasks::copy_tasks;
 use crate::{Accepted, Core, Report};
 use pp_space::Space;
 use std::alloc::{AllocError, Global};
@@ -13,21 +14,6 @@ pub struct Replacement<S: Space> {
     pub place: usize,
     pub rest: Vec<S::Task>,
     pub value: S::Value,
-}
-
-/// The tasks, copied.
-fn copy_tasks<S: Space>(
-    alloc: Global,
-    space: &S,
-    tasks: &[S::Task],
-) -> Result<Vec<S::Task>, AllocError>
-    ensures { IfOk result (λ copies. copies.items ≡ tasks.now) }
-{
-    let mut copies = Vec::with_capacity(alloc, tasks.len())?;
-    for i in 0..tasks.len() {
-        copies.push_reserved(space.copy_task(&tasks[i])?);
-    }
-    Ok(copies)
 }
 
 impl<'a, S: Space> Core<'a, S> {

@@ -20,4 +20,4 @@ pub use entry::{Act, Entry, EntryOf};
 pub use laws::core_runs_keep_the_worth;
 pub use report::{Report, ReportOf};
 pub use state::Core;
-pub use tasks::Tasks;
+pub use tasks::{Tasks, copy_tasks};

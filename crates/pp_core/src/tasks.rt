@@ -1,44 +1,24 @@
 //! Lists of tasks.
-ghost use Rattle.std.specs.Prelude.{◌≡◌};
+ghost use Rattle.std.specs.Prelude.{◌≡◌, IfOk};
 
-use std::marker::Model;
+use pp_list::ListOf;
+use pp_space::Space;
+use std::alloc::{AllocError, Global};
 
-/// Tasks in order. A contract sees them as their list.
-#[derive(Debug, Drop)]
-pub struct Tasks<T> {
-    tasks: Vec<T>,
-}
+/// Tasks in order.
+pub type Tasks<T> = ListOf<T>;
 
-impl<T> Model for Tasks<T> {
-    ghost use Rattle.std.specs.Prelude.{List};
-    ghost use Rattle.std.specs.Coded.{coded_list};
-
-    ghost Value = { List T };
-
-    ghost coded = { coded_list T.code };
-
-    ghost view = { λ s. s.tasks.items };
-}
-
-impl<T> Tasks<T> {
-    /// The tasks of a vector.
-    pub fn from_vec(tasks: Vec<T>) -> Tasks<T>
-        ensures { result ≡ tasks.items }
-    {
-        Tasks { tasks }
+/// The tasks, copied.
+pub fn copy_tasks<S: Space>(
+    alloc: Global,
+    space: &S,
+    tasks: &[S::Task],
+) -> Result<Vec<S::Task>, AllocError>
+    ensures { IfOk result (λ copies. copies.items ≡ tasks.now) }
+{
+    let mut copies = Vec::with_capacity(alloc, tasks.len())?;
+    for i in 0..tasks.len() {
+        copies.push_reserved(space.copy_task(&tasks[i])?);
     }
-
-    /// The tasks.
-    pub fn as_slice(&self) -> &[T]
-        ensures { result.now ≡ self.now }
-    {
-        self.tasks.as_slice()
-    }
-
-    /// The vector of the tasks.
-    pub fn into_vec(self) -> Vec<T>
-        ensures { result.items ≡ self }
-    {
-        self.tasks
-    }
+    Ok(copies)
 }

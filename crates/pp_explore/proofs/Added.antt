@@ -1,10 +1,9 @@
 -- Leaves that are added to a finding.
 use Rattle.std.proofs.Common.{◌≡◌, List, [], ◌∷◌, ◌++◌, refl, ap, sym, ◌∙◌}
-use Rattle.pp_algebra.specs.Rows.{Row}
 use Rattle.pp_sld.specs.Trace.{Leaf}
 use Rattle.pp_sld.specs.Verdicts.{Mode}
 use Rattle.pp_sld.specs.Findings.{Finding, finding_of, join_finding}
-use Rattle.pp_sld.specs.Lattice.{LeavesUnder, Fits}
+use Rattle.pp_sld.specs.Lattice.{LeavesUnder}
 use Rattle.pp_sld.proofs.Joining.{join-grouped, join-fits, join-unit, join-turned, none-fits}
 use Rattle.pp_sld.proofs.Fitting.{under-left, under-right, leaves_fit, leaves_join}
 use Rattle.pp_explore.specs.Exploring.{add_leaves, AddedAreJoined}

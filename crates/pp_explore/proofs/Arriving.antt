@@ -1,8 +1,7 @@
 -- A walker comes to the beginning of a work.
-use Rattle.std.proofs.Common.{◌≡◌, ◌≢◌, ◌↔◌, ℕ, zero, suc, ◌+◌, ◌-◌, ◌<◌, ◌≤◌, arith, Bool, true, false, IsTrue, List, [], ◌∷◌, ◌++◌, map, length, take, Option, Some, None, refl, ap, sym, ◌∙◌, subst, inl, inr, ◌⊎◌, append-nil, length-append}
+use Rattle.std.proofs.Common.{◌≡◌, ◌≢◌, ◌↔◌, ℕ, suc, ◌+◌, ◌-◌, ◌<◌, ◌≤◌, arith, Bool, true, false, IsTrue, List, [], ◌∷◌, ◌++◌, map, length, take, Option, Some, None, refl, ap, sym, ◌∙◌, subst, inl, inr, ◌⊎◌, append-nil, length-append}
 use Rattle.pp_algebra.specs.Rows.{Row}
 use Rattle.pp_sld.specs.Goals.{Program, Config}
-use Rattle.pp_sld.specs.Trees.{Search, IsSearch}
 use Rattle.pp_sld.specs.Trace.{Leaf}
 use Rattle.pp_sld.specs.Reach.{Reaches, Misses}
 use Rattle.pp_sld.specs.Lattice.{LeavesUnder}
@@ -21,10 +20,10 @@ use Rattle.pp_path.specs.declared.levels.Level.{Level as CodeLevel}
 use Rattle.pp_path.specs.Works.{level_by, work_by, levels_of}
 use Rattle.pp_explore.specs.declared.stage.Stage.{Stage}
 use Rattle.pp_explore.specs.declared.stage.Stage.TheVariants.{Enter, Try}
-use Rattle.pp_explore.specs.Standing.{StandsOver, StaysOver, MissesOver, nows}
-use Rattle.pp_explore.specs.Exploring.{add_leaves, IsUnderCall, HasExplored, HasGathered}
-use Rattle.pp_explore.specs.Searching.{state, FitsWork, Keeps, PathIs, Arrives, IsAbove, IsOn, IsReady, HasSearched, places_left, levels_left}
-use Rattle.pp_explore.proofs.Levels.{MovesOn, MovesIfSome, moves_on, ends_with, front_of, map-levels-append, nows-append, sibling_is_before}
+use Rattle.pp_explore.specs.Standing.{StaysOver, MissesOver, nows}
+use Rattle.pp_explore.specs.Exploring.{IsUnderCall, HasExplored, HasGathered}
+use Rattle.pp_explore.specs.Searching.{state, FitsWork, Keeps, PathIs, Arrives, IsAbove, IsReady, HasSearched, places_left, levels_left}
+use Rattle.pp_explore.proofs.Levels.{moves_on, ends_with, front_of, map-levels-append, nows-append, sibling_is_before}
 use Rattle.pp_explore.proofs.Turns.{moved_to, keeps_same, keeps_end, next_later}
 
 -- ===== the levels of the code

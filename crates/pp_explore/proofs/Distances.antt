@@ -1,15 +1,13 @@
 -- How far it is to the end of a search.
-use Rattle.std.proofs.Common.{◌≡◌, ℕ, zero, suc, ◌+◌, ◌-◌, ◌*◌, ◌<◌, ◌≤◌, arith, List, [], ◌∷◌, ◌++◌, length, reverse, refl, ap, sym, ◌∙◌, ◌⊎◌, inl, inr, length-append}
-use Rattle.std.proofs.lemmas.List.{length-reverse}
+use Rattle.std.proofs.Common.{◌≡◌, ℕ, zero, suc, ◌+◌, ◌*◌, ◌<◌, ◌≤◌, arith, List, [], ◌∷◌, ◌++◌, length, ap, sym, ◌∙◌, ◌⊎◌, inl, inr, length-append}
 use Rattle.pp_sld.specs.Goals.{Program, Config}
 use Rattle.pp_sld.specs.Ways.{Way, choices, next}
 use Rattle.pp_sld.specs.Trees.{Searches, no_more, child, failed, AreSearches}
 use Rattle.pp_sld.specs.Trace.{trace, trace_all}
 use Rattle.pp_sld.specs.Paths.{kids, skip, count_kids}
-use Rattle.pp_sld.specs.Works.{Level, siblings, has_sibling}
+use Rattle.pp_sld.specs.Works.{Level, siblings}
 use Rattle.pp_sld.specs.Reach.{Chosen}
 use Rattle.pp_sld.proofs.Trees.{tree, choice_tree, goes_at}
-use Rattle.pp_walk.specs.Places.{Place}
 use Rattle.pp_explore.specs.Standing.{back_by}
 use Rattle.pp_explore.specs.Searching.{size, owed, owed_here}
 

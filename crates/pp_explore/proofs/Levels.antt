@@ -1,10 +1,10 @@
 -- How lists of levels move on.
-use Rattle.std.proofs.Common.{◌≡◌, ℕ, zero, suc, ◌+◌, ◌-◌, ◌<◌, ◌≤◌, rules, arith, Bool, true, false, cond, List, [], ◌∷◌, ◌++◌, map, length, reverse, take, drop, get_or, Option, Some, None, refl, ap, sym, ◌∙◌, subst, append_assoc, length-append}
+use Rattle.std.proofs.Common.{◌≡◌, ℕ, zero, suc, ◌+◌, ◌-◌, ◌<◌, ◌≤◌, rules, arith, Bool, true, false, cond, List, [], ◌∷◌, ◌++◌, map, length, reverse, take, drop, get_or, Option, Some, None, refl, ap, sym, ◌∙◌, subst, append_assoc}
 use Rattle.std.proofs.lemmas.List.{map-append, reverse-append}
 use Rattle.std.proofs.Math.Seq.{take-append_seam, get_or-append_seam}
 use Rattle.pp_sld.specs.Works.{Level, places, has_sibling, siblings, moved, next_levels}
 use Rattle.pp_path.specs.declared.levels.Level.{Level as CodeLevel}
-use Rattle.pp_path.specs.Works.{level_by, work_by, levels_of}
+use Rattle.pp_path.specs.Works.{level_by, work_by, levels_of, HasMore}
 use Rattle.pp_explore.specs.Standing.{nows}
 use Rattle.pp_explore.specs.Searching.{IsPlaceOf}
 
@@ -136,6 +136,13 @@ place_of_last (Some xs) d h ls l e =
     let f : map level_by xs ≡ ls ++ l ∷ [] = cc e in
     let g : level_by r.last ≡ l = same-last (map level_by r.front) ls (level_by r.last) l (sym (ap (map level_by) r.is ∙ map-levels-append r.front (r.last ∷ [])) ∙ f) in
     ap (λ x. x.now) (last_of xs r.front r.last d r.is) ∙ ap (λ (x : Level). x.now) g
+
+-- what is left there is left
+pub more_at_last : (w : Option (List CodeLevel)) (d : CodeLevel) (n : ℕ) → 1 ≤ length (levels_of w) → (get_or (levels_of w) (length (levels_of w) - 1) d).now + n < (get_or (levels_of w) (length (levels_of w) - 1) d).end → HasMore w n
+more_at_last None d n h lt = absurd (omega (arith, h))
+more_at_last (Some xs) d n h lt =
+    let r = ends_with xs h in
+    (r.front, r.last, ap (λ x. Some x) r.is, subst (λ (x : CodeLevel). x.now + n < x.end) (last_of xs r.front r.last d r.is) lt)
 
 -- at one of the levels
 pub nows-split : (ls : List CodeLevel) (i : ℕ) (d : CodeLevel) → i < length ls → nows ls ≡ nows (take i ls) ++ (get_or ls i d).now ∷ nows (drop (suc i) ls)

@@ -1,6 +1,6 @@
 -- How turns make up a search, and what is left of it.
-use Rattle.std.proofs.Common.{◌≡◌, ◌<◌, ℕ, zero, suc, arith, get_or, All, Bool, true, false, ◌||◌, List, [], ◌∷◌, ◌++◌, map, Option, Some, None, refl, ap, sym, ◌∙◌, subst, append_assoc, append-nil}
-use Rattle.pp_sld.specs.Goals.{Program, Config}
+use Rattle.std.proofs.Common.{◌≡◌, ◌<◌, ℕ, zero, suc, arith, get_or, All, Bool, true, false, ◌||◌, List, [], ◌∷◌, ◌++◌, Option, Some, None, refl, ap, sym, ◌∙◌, subst, append_assoc}
+use Rattle.pp_sld.specs.Goals.{Program}
 use Rattle.pp_sld.specs.Trees.{Search}
 use Rattle.pp_sld.specs.Trace.{Leaf}
 use Rattle.pp_sld.specs.Verdicts.{Mode}
@@ -9,15 +9,13 @@ use Rattle.pp_sld.specs.Works as works
 use Rattle.pp_sld.specs.Works.{Level, Work, spent, at, places, split_levels, works_of, ComesAfter, IsLater}
 use Rattle.pp_sld.specs.Reports.{HasWalked}
 use Rattle.pp_sld.proofs.Trees.{tree}
-use Rattle.pp_sld.proofs.Reports.{walk_splits}
 use Rattle.pp_sld.proofs.LaterWorks.{split_is_later, later_through}
 use Rattle.pp_walk.specs.Places.{Place}
 use Rattle.pp_path.specs.declared.levels.Level.{Level as CodeLevel}
 use Rattle.pp_path.specs.Works.{work_by}
-use Rattle.pp_stop.specs.declared.up.Up.{Up}
-use Rattle.pp_stop.specs.declared.up.Up.TheVariants.{No, Settled, Dry}
+use Rattle.pp_stop.specs.declared.up.Up.TheVariants.{No}
 use Rattle.pp_stop.specs.Words.{up_of}
-use Rattle.pp_explore.specs.Standing.{StandsOver, StaysOver}
+use Rattle.pp_explore.specs.Standing.{StaysOver}
 use Rattle.pp_explore.specs.Exploring.{add_leaves}
 use Rattle.pp_explore.specs.Searching.{State, Keeps, HasSearched}
 use Rattle.pp_explore.proofs.Added.{add_leaves-append}

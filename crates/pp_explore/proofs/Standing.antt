@@ -1,11 +1,10 @@
 -- A walker stands over a path, one step further and back, and where it misses.
-use Rattle.std.proofs.Common.{◌≡◌, ℕ, zero, suc, ◌+◌, ◌-◌, ◌<◌, ◌≤◌, arith, Bool, true, false, List, [], ◌∷◌, ◌++◌, length, reverse, take, drop, length-drop, Option, Some, None, IsSome, option_to_list, Result, Ok, Err, IfOk, OnErr, refl, ap, sym, ◌∙◌, subst, inl, inr, append-nil, length-append}
+use Rattle.std.proofs.Common.{◌≡◌, ℕ, zero, suc, ◌-◌, ◌<◌, ◌≤◌, arith, Bool, true, false, List, [], ◌∷◌, ◌++◌, length, reverse, take, drop, length-drop, Option, Some, None, IsSome, option_to_list, Result, Ok, Err, IfOk, OnErr, refl, ap, sym, ◌∙◌, subst, inl, inr}
 use Rattle.std.specs.List.{slice_get}
 use Rattle.std.proofs.lemmas.List.{reverse-reverse, length-reverse, take-append-le}
-use Rattle.std.proofs.Math.Seq.{take-length}
 use Rattle.pp_algebra.specs.Rows.{Row}
 use Rattle.pp_sld.specs.Goals.{Program, Config}
-use Rattle.pp_sld.specs.Ways.{Way, choices, next}
+use Rattle.pp_sld.specs.Ways.{Way}
 use Rattle.pp_sld.specs.Reach.{Stands, Misses}
 use Rattle.pp_sld.proofs.Standing.{stands_root, stands_went, stands_chose, misses_dead, misses_place, misses_end}
 use Rattle.pp_walk.specs.Places.{Place}

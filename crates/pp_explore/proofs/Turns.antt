@@ -1,15 +1,14 @@
 -- What the turns of a search make of it.
-use Rattle.std.proofs.Common.{◌≡◌, ℕ, zero, suc, ◌+◌, ◌-◌, ◌*◌, ◌<◌, ◌≤◌, arith, Bool, true, false, cond, List, [], ◌∷◌, ◌++◌, length, reverse, take, Option, Some, None, refl, ap, sym, ◌∙◌, subst, inl, inr, ◌⊎◌, append-nil, length-append}
+use Rattle.std.proofs.Common.{◌≡◌, ℕ, zero, suc, ◌+◌, ◌-◌, ◌<◌, ◌≤◌, arith, Bool, true, false, List, [], ◌∷◌, ◌++◌, map, length, reverse, take, Option, Some, None, refl, ap, sym, ◌∙◌, subst, inl, inr, ◌⊎◌, append-nil, append_assoc, length-append}
 use Rattle.std.proofs.lemmas.List.{length-reverse}
+use Rattle.std.proofs.lemmas.Bool.{lt-ltb}
 use Rattle.std.proofs.Math.Seq.{take-length}
 use Rattle.pp_algebra.specs.Rows.{Row}
 use Rattle.pp_sld.specs.Goals.{Program, Config}
-use Rattle.pp_sld.specs.Ways.{Way, finished, left_loose, fails, one, choices, next}
-use Rattle.pp_sld.specs.Trees.{Search}
-use Rattle.pp_sld.specs.Trace.{Leaf, answers_with, loose_with, trace, met}
-use Rattle.pp_sld.specs.Leaves.{row_at, leaf_row}
+use Rattle.pp_sld.specs.Trace.{Leaf, answers_with, loose_with, met}
+use Rattle.pp_sld.specs.Leaves.{row_at}
 use Rattle.pp_sld.specs.Verdicts.{Mode}
-use Rattle.pp_sld.specs.Findings.{Finding, join_finding, finding_of}
+use Rattle.pp_sld.specs.Findings.{Finding}
 use Rattle.pp_sld.specs.Lattice.{IsUnder, LeavesUnder, add_answer, add_loose}
 use Rattle.pp_sld.specs.Works as works
 use Rattle.pp_sld.specs.Works.{Level, Work, spent, at, level, places, worth, path_worth, down, work_of, next_levels, has_sibling, siblings, IsLater}
@@ -22,17 +21,19 @@ use Rattle.pp_sld.proofs.WorkLeaves.{next_keeps, down_keeps}
 use Rattle.pp_sld.proofs.LaterWorks.{next_is_later, down_is_later, later_through}
 use Rattle.pp_sld.proofs.Reports.{walk_goes_down, walk_goes_on, walk_ends}
 use Rattle.pp_sld.proofs.Fitting.{under-left, under-right}
+use Rattle.pp_path.specs.declared.levels.Level.{Level as CodeLevel}
+use Rattle.pp_path.specs.Works.{level_by, work_by, skipped, HasMore}
 use Rattle.pp_walk.specs.Places.{Place}
-use Rattle.pp_walk.specs.Moves.{Stepped, IsAtChoice, HasChoice, IsDeadAt, Chose, IsNextPlace}
+use Rattle.pp_walk.specs.Moves.{Stepped, IsAtChoice, HasChoice, IsDeadAt}
 use Rattle.pp_walk.specs.declared.event.Event.TheVariants.{Went, Choice, Failed, Answer, Loose}
 use Rattle.pp_explore.specs.declared.stage.Stage.{Stage}
 use Rattle.pp_explore.specs.declared.stage.Stage.TheVariants.{Enter, Try}
 use Rattle.pp_explore.specs.declared.stage.Turned.{Turned}
-use Rattle.pp_explore.specs.declared.stage.Turned.TheVariants.{Done, On, Tried}
 use Rattle.pp_explore.specs.Standing.{StandsOver, back_by, Took}
 use Rattle.pp_explore.specs.Exploring.{add_leaves}
-use Rattle.pp_explore.specs.Searching.{State, state, IsOn, IsPlaceOf, KnownDead, HasLeft, PathIs, GivesUp, FitsWork, AreDead, IsReady, size, owed, owed_here, distance, upward, Keeps, Goes, Ends, Turns}
-use Rattle.pp_explore.proofs.Levels.{next_snoc, MovesOn, MovesIfSome, moves_on, sibling_is_before, places-append, length-places, length-snoc, reverse-snoc, reverse-middle, take-places}
+use Rattle.pp_explore.specs.Searching.{state, IsOn, IsPlaceOf, KnownDead, HasLeft, PathIs, GivesUp, FitsWork, AreDead, IsReady, size, owed, owed_here, distance, upward, Keeps, Goes, Ends, Turns}
+use Rattle.pp_explore.proofs.Added.{add_leaves-append}
+use Rattle.pp_explore.proofs.Levels.{map-levels-append, same-last, next_snoc, MovesOn, MovesIfSome, moves_on, sibling_is_before, places-append, length-places, length-snoc, reverse-snoc, reverse-middle, take-places}
 use Rattle.pp_explore.proofs.Distances.{smaller, smaller_chosen, size_whole, owed_back}
 use Rattle.pp_explore.proofs.Standing.{length-over, over_went, over_chose, choice_back, misses_if_none}
 
@@ -47,6 +48,17 @@ next_later w v ls e h = elim (next_is_later w) [
   | inl z ↦ absurd (cc (z, e))
   | inr z ↦ subst (λ x. IsLater x w) (e ∙ sym h) z
 ]
+
+-- the levels of a work
+abbrev levels_in : Work → List Level
+levels_in spent = []
+levels_in (at ls) = ls
+
+same_levels_of : (w : Work) (ls ks : List Level) → w ≡ at ls → w ≡ at ks → ls ≡ ks
+same_levels_of w ls ks e i = ap levels_in (sym e ∙ i)
+
+same_last_of : (w : Work) (ls ks : List Level) (l k : Level) → w ≡ at (ls ++ l ∷ []) → w ≡ at (ks ++ k ∷ []) → l ≡ k
+same_last_of w ls ks l k e i = same-last ls ks l k (same_levels_of w (ls ++ l ∷ []) (ks ++ k ∷ []) e i)
 
 module _ (clauses : Program) where
   -- ===== where a search lands that gives up what its path leads to
@@ -349,6 +361,45 @@ module _ (clauses : Program) where
     pub passed_turns : (p q : Place) (ks js : List ℕ) (w v : Work) (t : Turned) (f : Finding) (k0 at_place from : ℕ) → IsPlaceOf w at_place → AreDead clauses p.here at_place from → (HasChoice clauses p.here at_place → IsDeadAt clauses p.here at_place) → GivesUp clauses p ks w from t q js v → IsReady clauses call (state (Try k0) p ks w f) → Turns clauses m call (state (Try k0) p ks w f) t q js v f
     passed_turns p q ks js w v t f k0 at_place from place dead d h r =
         h m call (Try k0) f f [] r (at_place, place, dead) (dead_here p ks w f k0 at_place place d r) refl
+
+    -- ===== alternatives that are passed over at once
+
+    -- one turn after another
+    goes_on : (s t u : Stage) (p q o : Place) (ks js is : List ℕ) (w v x : Work) (f g h : Finding) → ((root : Config) → StandsOver clauses root p ks → StandsOver clauses root q js) → Goes clauses m call (state s p ks w f) (state t q js v g) → Goes clauses m call (state t q js v g) (state u o is x h) → Goes clauses m call (state s p ks w f) (state u o is x h)
+    goes_on s t u p q o ks js is w v x f g h over a b = record {
+      met = a.met ++ b.met;
+      finding = b.finding ∙ (ap (add_leaves m b.met) a.finding ∙ sym (add_leaves-append m a.met b.met f));
+      keeps = λ root st task xs k. subst (λ y. HasWalked (tree clauses root) task y (x ∷ [])) (append_assoc xs a.met b.met) (b.keeps root (over root st) task (xs ++ a.met) (a.keeps root st task xs k));
+      ready = b.ready;
+      nearer = omega (arith, a.nearer, b.nearer);
+      later = λ task k. b.later task (a.later task k);
+    }
+
+    -- the walker stands still
+    passes_one : (p : Place) (ks : List ℕ) (w : Work) (f : Finding) (k0 from : ℕ) (ls : List Level) (l : Level) → w ≡ at (ls ++ l ∷ []) → suc l.now < l.end → l.now < from → AreDead clauses p.here l.now from → IsReady clauses call (state (Try k0) p ks w f) → Goes clauses m call (state (Try k0) p ks w f) (state (Try from) p ks (works.next w) f)
+    passes_one p ks w f k0 from ls l e more lt dead r =
+        let place : IsPlaceOf w l.now = λ ks k i. ap (λ (x : Level). x.now) (same_last_of w ls ks l k e i) in
+        let on : works.next w ≡ at (ls ++ siblings l ∷ []) = ap works.next e ∙ ap work_of (next_snoc ls l true (lt-ltb (suc l.now) l.end more)) in
+        let many : length (ls ++ siblings l ∷ []) - 1 ≡ length ks = omega (arith, length-snoc ls (siblings l), ap length r.fits.3, length-places r.fits.0, length-snoc ls l, length-snoc r.fits.0 r.fits.1, ap length (same_levels_of w (ls ++ l ∷ []) (r.fits.0 ++ r.fits.1 ∷ []) e r.fits.2)) in
+        let none : length ks - (length (ls ++ siblings l ∷ []) - 1) ≡ 0 = omega (arith, many) in
+        left_goes p p ks ks w (works.next w) f f [] (dead_here p ks w f k0 l.now place (dead l.now (omega arith) lt) r) refl (λ root s. s) from from (inr (refl, refl)) (Try k0) r (l.now, place, dead)
+        (ls ++ siblings l ∷ [], on, on, sym (ap (λ n. take n ks) many ∙ take-length ks), sym (ap (λ n. back_by n p.above p.here) none))
+
+    passes : (n : ℕ) (p : Place) (ks : List ℕ) (w : Work) (f : Finding) (k0 from : ℕ) (ls : List Level) (l : Level) → w ≡ at (ls ++ l ∷ []) → l.now + suc n < l.end → l.now + n < from → AreDead clauses p.here l.now from → IsReady clauses call (state (Try k0) p ks w f) → Goes clauses m call (state (Try k0) p ks w f) (state (Try from) p ks (skipped (suc n) w) f)
+    passes zero p ks w f k0 from ls l e more lt dead r = passes_one p ks w f k0 from ls l e (omega (arith, more)) (omega (arith, lt)) dead r
+    passes (suc n) p ks w f k0 from ls l e more lt dead r =
+        let one = passes_one p ks w f k0 from ls l e (omega (arith, more)) (omega (arith, lt)) dead r in
+        let on : works.next w ≡ at (ls ++ siblings l ∷ []) = ap works.next e ∙ ap work_of (next_snoc ls l true (lt-ltb (suc l.now) l.end (omega (arith, more)))) in
+        goes_on (Try k0) (Try from) (Try from) p p p ks ks ks w (works.next w) (skipped (suc n) (works.next w)) f f f (λ root s. s) one
+        (passes n p ks (works.next w) f from from ls (siblings l) on (omega (arith, more)) (omega (arith, lt)) (λ k i j. dead k (omega (arith, i)) j) one.ready)
+
+    pub passed_at_once : (p : Place) (ks : List ℕ) (w : Option (List CodeLevel)) (f : Finding) (k0 now from n : ℕ) → HasMore w n → 0 < n → now + n ≤ from → IsPlaceOf (work_by w) now → AreDead clauses p.here now from → IsReady clauses call (state (Try k0) p ks (work_by w) f) → Goes clauses m call (state (Try k0) p ks (work_by w) f) (state (Try from) p ks (skipped n (work_by w)) f)
+    passed_at_once p ks w f k0 now from zero h some lt place dead r = absurd (omega (arith, some))
+    passed_at_once p ks w f k0 now from (suc n) h some lt place dead r =
+        let l : Level = level_by h.1 in
+        let e : work_by w ≡ at (map level_by h.0 ++ l ∷ []) = ap work_by h.2 ∙ ap at (map-levels-append h.0 (h.1 ∷ [])) in
+        let here : now ≡ l.now = place (map level_by h.0) l e in
+        passes n p ks (work_by w) f k0 from (map level_by h.0) l e h.3 (omega (arith, lt, here)) (subst (λ k. AreDead clauses p.here k from) here dead) r
 
     module _ (p q o : Place) (ks is js : List ℕ) (w v : Work) (f : Finding) (k0 k : ℕ) (h : Took clauses p ks k false q is) (place : IsPlaceOf w k) (r : IsReady clauses call (state (Try k0) p ks w f)) where
       no_path : PathIs clauses p ks w []

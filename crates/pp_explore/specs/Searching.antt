@@ -136,6 +136,10 @@ module _ (clauses : Program) (m : Mode) (call : Row) where
 abbrev pub GivesUp : Program → Place → List ℕ → Work → ℕ → Turned → Place → List ℕ → Work → Type 0
 GivesUp clauses p ks w from r q js v = (m : Mode) (call : Row) (s : Stage) (f g : Finding) (ms : List Leaf) → IsReady clauses call (state s p ks w f) → KnownDead clauses s p w from → PathIs clauses p ks w ms → g ≡ add_leaves m ms f → Turns clauses m call (state s p ks w f) r q js v g
 
+-- a turn passes over alternatives here that are known to fail, with the next one among them, and meets no leaf
+abbrev pub PassesOver : Program → Place → List ℕ → Work → ℕ → Turned → Place → List ℕ → Work → Type 0
+PassesOver clauses p ks w from r q js v = (m : Mode) (call : Row) (k0 now : ℕ) (f : Finding) → IsReady clauses call (state (Try k0) p ks w f) → IsPlaceOf w now → AreDead clauses p.here now from → (HasChoice clauses p.here now → IsDeadAt clauses p.here now) → Turns clauses m call (state (Try k0) p ks w f) r q js v f
+
 -- a turn tries alternatives here, and meets no leaf
 abbrev pub Tries : Program → Place → List ℕ → Work → ℕ → Turned → Place → List ℕ → Work → Type 0
 Tries clauses p ks w from r q js v = (m : Mode) (call : Row) (f : Finding) → IsReady clauses call (state (Try from) p ks w f) → Turns clauses m call (state (Try from) p ks w f) r q js v f

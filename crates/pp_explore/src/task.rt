@@ -84,6 +84,7 @@ fn search<M: SearchMachine, G: Gatherer, L: Ledger>(
     ensures seat { IsSeatOf stop.now seat.new }
     ensures late { late seat.new ≡ late seat.old }
     ensures budget { IfOk result (λ e. e.up ≡ No → e.rest.items ≢ [] → steps.old + budget ≤ steps.new) }
+    ensures seen { StillSeen seat.old seat.new }
     ensures loads { loads seat.old + steps.new ≤ loads seat.new + steps.old }
 {
     let mut left = budget;
@@ -141,6 +142,7 @@ pub fn explore<M: SearchMachine, G: Gatherer, L: Ledger>(
     ensures budget { IfOk result (λ e. e.up ≡ No → e.rest.items ≢ [] → steps.old + budget ≤ steps.new) }
     ensures up { IfOk result (λ e. e.up ≡ up_of (saw_settled seat.new) (saw_dry seat.new)) }
     ensures seat { IsSeatOf stop.now seat.new }
+    ensures seen { StillSeen seat.old seat.new }
     ensures loads { loads seat.old + steps.new < loads seat.new + steps.old }
     ensures late { has_seen seat.old ≡ false → late seat.new ≡ late seat.old }
     ensures seen_loads { has_seen seat.old ≡ true → loads seat.new ≡ loads seat.old + 1 }

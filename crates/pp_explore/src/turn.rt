@@ -1,17 +1,17 @@
 //! The turns of a search.
-ghost use Rattle.std.specs.Prelude.{◌≡◌, ◌+◌, ◌≤◌, ℕ, length, IfOk};
+ghost use Rattle.std.specs.Prelude.{◌≡◌, ◌+◌, ◌<◌, ◌≤◌, ℕ, length, IfOk};
 ghost use Rattle.pp_algebra.specs.Rows.{Row as RowValue};
 ghost use Rattle.pp_sld.specs.Verdicts.{Mode};
 ghost use Rattle.pp_sld.specs.Findings.{Finding};
 ghost use Rattle.pp_walk.specs.Moves.{HasChoice};
-ghost use Rattle.pp_path.specs.Works.{work_by, levels_of};
+ghost use Rattle.pp_path.specs.Works.{work_by, levels_of, HasMore};
 ghost use Rattle.pp_explore.specs.declared.stage.Stage.TheVariants.{Enter, Try};
 ghost use Rattle.pp_explore.specs.Standing.{StaysOver};
-ghost use Rattle.pp_explore.specs.Searching.{state, FitsWork, IsReady, IsPlaceOf, HasLeft, GivesUp, Tries, Turns};
+ghost use Rattle.pp_explore.specs.Searching.{state, FitsWork, IsReady, IsPlaceOf, HasLeft, GivesUp, PassesOver, Tries, Turns};
 
 use crate::Walker;
 use crate::stage::{Stage, Turned};
-use pp_path::Work;
+use pp_path::{Level, Work};
 use pp_walk::{Event, Gatherer, SearchMachine, Steps};
 use std::alloc::AllocError;
 use std::sync::ledger::Ledger;
@@ -111,13 +111,31 @@ fn try_one<M: SearchMachine, L: Ledger>(
     Ok(Turned::Done)
 }
 
-/// The place of the work's last level.
-fn place_of(work: &Work) -> u64
+/// The work's last level.
+fn last_level(work: &Work) -> Level
     requires { 1 ≤ length (levels_of work.now) }
-    ensures { IsPlaceOf (work_by work.now) result }
+    ensures place { IsPlaceOf (work_by work.now) result.now }
+    ensures more { (n : ℕ) → result.now + n < result.end → HasMore work.now n }
 {
     let levels = work.path();
-    levels[levels.len() - 1].now
+    levels[levels.len() - 1]
+}
+
+/// Passes at once over the alternatives of the choice here that come before this place, which fail; the next one is
+/// among them. Gives up where no other is left.
+fn pass_over<M: SearchMachine>(walker: &mut Walker<M>, work: &mut Work, from: u64) -> Turned
+    requires { 1 ≤ length (levels_of work.old) }
+    ensures clauses { M.clauses walker.new.machine ≡ M.clauses walker.old.machine }
+    ensures passes { PassesOver (M.clauses walker.old.machine) (M.place walker.old.machine) walker.old.path.items (work_by work.old) from result (M.place walker.new.machine) walker.new.path.items (work_by work.new) }
+    ensures stands { StaysOver (M.clauses walker.old.machine) (M.place walker.old.machine) walker.old.path.items (M.place walker.new.machine) walker.new.path.items }
+{
+    let last = last_level(work);
+    let to = from.min(last.end.saturating_sub(1));
+    if to > last.now {
+        work.skip(to - last.now);
+        return Turned::On(Stage::Try(from));
+    }
+    give_up(walker, work, from)
 }
 
 /// Tries the next alternative here, or passes over it where it is known to fail.
@@ -135,19 +153,19 @@ fn attempt<M: SearchMachine, L: Ledger>(
     ensures paid { IfOk result (λ _. steps.old + left.old ≤ steps.new + left.new) }
     ensures at_most { steps.new ≤ steps.old + 1 }
 {
-    let at = place_of(work);
+    let at = last_level(work).now;
     if at < from {
-        return Ok(give_up(walker, work, from));
+        return Ok(pass_over(walker, work, from));
     }
     match walker.machine.place_from(at) {
         Some(next) => {
             if next == at {
                 try_one(walker, work, at, left, steps)
             } else {
-                Ok(give_up(walker, work, next))
+                Ok(pass_over(walker, work, next))
             }
         }
-        None => Ok(give_up(walker, work, u64::MAX)),
+        None => Ok(pass_over(walker, work, u64::MAX)),
     }
 }
 

@@ -3,4 +3,3 @@ pub mod Alike
 pub mod Taking
 pub mod Commons
 pub mod Kept
-pub mod Widths

@@ -1,5 +1,5 @@
 //! Rows that stand for what all of them have in common, the largest first: so one row more is not joined with all at once.
-ghost use Rattle.std.specs.Prelude.{◌≡◌, ◌≤◌, ◌+◌, [], ◌∷◌, Some, IsTrue, IfOk, OnErr, OnOk, length};
+ghost use Rattle.std.specs.Prelude.{◌≡◌, ◌≤◌, ◌+◌, [], ◌∷◌, true, false, Some, IsTrue, IfOk, OnErr, OnOk, length};
 ghost use Rattle.pp_algebra.specs.Rows.{Row as RowValue};
 ghost use Rattle.pp_sld.specs.Findings.{join_option};
 ghost use Rattle.pp_find.specs.Common.{common, AreUnder, AreUnderOne};
@@ -56,37 +56,30 @@ fn join_last(alloc: Global, rows: &mut Vec<Row>) -> Result<(), AllocError>
     Ok(())
 }
 
-/// Whether there are two rows, and the last is not much smaller than the one before it, or that is small itself.
-fn are_near(rows: &[Row]) -> bool
-    ensures { IsTrue result → 2 ≤ length rows.now }
+/// Whether the last two rows are to be joined: where all are, or where the last is not much smaller than the one before
+/// it, or that is small itself.
+fn is_next(rows: &[Row], all: bool) -> bool
+    ensures two { IsTrue result → 2 ≤ length rows.now }
+    ensures all { all ≡ true → result ≡ false → length rows.now ≤ 1 }
 {
     if rows.len() < 2 {
         return false;
+    }
+    if all {
+        return true;
     }
     let before = weight(&rows[rows.len() - 2]);
     before < SMALL || before / 2 <= weight(&rows[rows.len() - 1])
 }
 
-/// Joins the last rows, as long as they are near.
-fn join_near(alloc: Global, rows: &mut Vec<Row>) -> Result<(), AllocError>
+/// Joins the last rows: all of them into one, or as long as they are near.
+fn join_rows(alloc: Global, rows: &mut Vec<Row>, all: bool) -> Result<(), AllocError>
     requires under { AreUnderOne rows.old.items }
     ensures same { common rows.new.items ≡ common rows.old.items }
     ensures under { (call : RowValue) → AreUnder call rows.old.items → AreUnder call rows.new.items }
+    ensures one { all ≡ true → OnOk result (length rows.new.items ≤ 1) }
 {
-    while are_near(rows.as_slice()) {
-        join_last(alloc, rows)?;
-    }
-    Ok(())
-}
-
-/// Joins all rows into one.
-fn join_all(alloc: Global, rows: &mut Vec<Row>) -> Result<(), AllocError>
-    requires under { AreUnderOne rows.old.items }
-    ensures same { common rows.new.items ≡ common rows.old.items }
-    ensures under { (call : RowValue) → AreUnder call rows.old.items → AreUnder call rows.new.items }
-    ensures one { OnOk result (length rows.new.items ≤ 1) }
-{
-    while rows.len() >= 2 {
+    while is_next(rows.as_slice(), all) {
         join_last(alloc, rows)?;
     }
     Ok(())
@@ -99,7 +92,7 @@ pub(crate) fn add_row(alloc: Global, rows: &mut Vec<Row>, row: Row) -> Result<()
     ensures err { OnErr result (common rows.new.items ≡ common rows.old.items) }
     ensures under { (call : RowValue) → AreUnder call (row ∷ rows.old.items) → AreUnder call rows.new.items }
 {
-    join_near(alloc, rows)?;
+    join_rows(alloc, rows, false)?;
     rows.push(row)?;
     Ok(())
 }
@@ -111,7 +104,7 @@ pub(crate) fn joined_with(alloc: Global, rows: &mut Vec<Row>, row: Row) -> Resul
     ensures under { (call : RowValue) → AreUnder call rows.old.items → AreUnder call rows.new.items }
     ensures joined { IfOk result (λ whole. Some whole ≡ join_option (common rows.old.items) (Some row)) }
 {
-    join_all(alloc, rows)?;
+    join_rows(alloc, rows, true)?;
     if rows.is_empty() {
         return Ok(row);
     }
@@ -125,7 +118,7 @@ pub(crate) fn joined_rows(alloc: Global, rows: &mut Vec<Row>) -> Result<Option<R
     ensures under { (call : RowValue) → AreUnder call rows.old.items → AreUnder call rows.new.items }
     ensures joined { IfOk result (λ whole. whole ≡ common rows.old.items) }
 {
-    join_all(alloc, rows)?;
+    join_rows(alloc, rows, true)?;
     if rows.is_empty() {
         return Ok(None);
     }

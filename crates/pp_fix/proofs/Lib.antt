@@ -2,3 +2,4 @@ mod Widths
 mod Waking
 mod Marking
 mod Turning
+mod Watched

@@ -6,4 +6,4 @@ mod fix;
 mod search;
 mod unfinished;
 
-pub use fix::{End, Fixed, fix_alone};
+pub use fix::{End, Fixed, fix_alone, fix_with};

@@ -12,7 +12,7 @@ use Rattle.pp_heap.specs.declared.state.Slot.TheVariants as slots
 use Rattle.pp_heap.specs.declared.state.Value.{Value}
 use Rattle.pp_heap.specs.declared.state.Value.TheVariants.{Variable, Int, Atom, Compound}
 use Rattle.pp_heap.specs.declared.state.Entry.{Entry}
-use Rattle.pp_heap.specs.declared.state.Entry.TheVariants.{Grown, Held, Bound, Narrowed, Added}
+use Rattle.pp_heap.specs.declared.state.Entry.TheVariants.{Grown, Held, Bound, Narrowed, Added, Defined}
 use Rattle.pp_heap.specs.Values.{slot_at, slot_of, term_at, value_term}
 use Rattle.pp_heap.specs.Stores.{Store, before}
 use Rattle.pp_heap.specs.Soundness.{IsLinked}
@@ -89,6 +89,7 @@ bound_before (Held n) st v c h = h
 bound_before (Bound x d) st v c h = set_bound st.slots x v d c h
 bound_before (Narrowed x d) st v c h = set_bound st.slots x v d c h
 bound_before (Added n) st v c h = take_bound st.slots n v c h
+bound_before (Defined n) st v c h = take_bound st.slots n v c h
 
 -- what is free after a change is free before it
 pub free_before : (e : Entry) (st : Store) (v : ℕ) (d : Option ℕ) → slot_at st.slots v ≡ slots.Free d → (g : Option ℕ) × (slot_at (before e st).slots v ≡ slots.Free g)
@@ -97,6 +98,7 @@ free_before (Held n) st v d h = (d, h)
 free_before (Bound x k) st v d h = set_free st.slots x v k d h
 free_before (Narrowed x k) st v d h = set_free st.slots x v k d h
 free_before (Added n) st v d h = take_free st.slots n v d h
+free_before (Defined n) st v d h = take_free st.slots n v d h
 
 shorter_term : (heap : List Cell) (n p : ℕ) → IsForest heap → IsForest (take n heap) → p < length (take n heap) → term_at (take n heap) p ≡ term_at heap p
 shorter_term heap n p f g l =
@@ -112,6 +114,7 @@ value_before (Held n) st v c k l h = refl
 value_before (Bound x d) st v c k l h = refl
 value_before (Narrowed x d) st v c k l h = refl
 value_before (Added n) st v c k l h = refl
+value_before (Defined n) st v c k l h = refl
 
 pub equates_before : (e : Entry) (st : Store) (s : ℕ → Tree ℕ) → IsLinked st → IsLinked (before e st) → Equates st s → Equates (before e st) s
 equates_before e st s k l q v c h = q v c (bound_before e st v c h) ∙ ap (put s) (sym (value_before e st v c k l h))

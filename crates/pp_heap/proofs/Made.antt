@@ -1,20 +1,21 @@
 -- The substitution that the changes make: it makes each variable equal to what it is bound to, and is the most general one that does.
-use Rattle.std.proofs.Common.{◌≡◌, ℕ, List, [], ◌∷◌, Bool, true, false, Option, None, refl, ap, sym, ◌∙◌, subst, inl, inr, cond}
+use Rattle.std.proofs.Common.{◌≡◌, ℕ, suc, ◌<◌, List, [], ◌∷◌, length, Bool, true, false, Option, None, refl, ap, sym, ◌∙◌, subst, inl, inr, cond, arith}
 use Rattle.std.specs.Prelude.{nat_eq}
 use Rattle.pp_algebra.specs.Terms.{Tree, variable, put, variables}
 use Rattle.pp_algebra.specs.Covers.{IsIn}
 use Rattle.pp_algebra.proofs.Put.{put-put, put-variable}
 use Rattle.pp_algebra.proofs.Bools.{nat_same, nat_is}
 use Rattle.pp_algebra.proofs.Antisym.{put-agree}
+use Rattle.pp_heap.specs.declared.state.Slot.{Slot}
 use Rattle.pp_heap.specs.declared.state.Slot.TheVariants as slots
 use Rattle.pp_heap.specs.declared.state.Value.{Value}
 use Rattle.pp_heap.specs.declared.state.Entry.{Entry}
-use Rattle.pp_heap.specs.declared.state.Entry.TheVariants.{Grown, Held, Bound, Narrowed, Added}
+use Rattle.pp_heap.specs.declared.state.Entry.TheVariants.{Grown, Held, Bound, Narrowed, Added, Defined}
 use Rattle.pp_heap.specs.Values.{slot_at, slot_of, slot_term, value_term}
 use Rattle.pp_heap.specs.Stores.{Store, before, made, single, step_by}
 use Rattle.pp_heap.specs.Soundness.{IsLinked, IsSound, IsStep}
 use Rattle.pp_heap.proofs.Slots.{never_free, one_value, slot_term-slot_of, Equates}
-use Rattle.pp_heap.proofs.Changes.{same_or_not, below_or, at_same, at_other, at_take, bound_within, free_before, value_before, equates_before}
+use Rattle.pp_heap.proofs.Changes.{same_or_not, below_or, at_same, at_other, at_take, bound_within, free_before, value_before, equates_before, past_take}
 
 pub single_same : (x : ℕ) (t : Tree ℕ) → single x t x ≡ t
 single_same x t = rw (nat_same x) refl
@@ -55,10 +56,37 @@ made_free (Bound x e ∷ es) st v d k h =
     ∙ single_other x _ v (λ i. never_free k.0.0 d (sym k.0.1 ∙ ap (slot_at st.slots) (sym i) ∙ h))
 made_free (Narrowed x e ∷ es) st v d k h = let f = free_before (Narrowed x e) st v d h in ap (put variable) (made_free es (before (Narrowed x e) st) v f.0 k.2 f.1)
 made_free (Added n ∷ es) st v d k h = let f = free_before (Added n) st v d h in ap (put variable) (made_free es (before (Added n) st) v f.0 k.2 f.1)
+made_free (Defined n ∷ es) st v d k h =
+    let f = free_before (Defined n) st v d h in
+    ap (put (step_by (Defined n) st (made es (before (Defined n) st)))) (made_free es (before (Defined n) st) v f.0 k.2 f.1)
+    ∙ single_other n _ v (λ i. never_free k.0.0 d (sym k.0.1 ∙ ap (slot_at st.slots) (sym i) ∙ h))
 
 -- what x is bound to, under the earlier substitution
-bound_term : (es : List Entry) (st : Store) (x : ℕ) (d : Option ℕ) (c : Value) → slot_at st.slots x ≡ slot_of c → put (made es (before (Bound x d) st)) (slot_term st.heap (slot_at st.slots x) x) ≡ put (made es (before (Bound x d) st)) (value_term st.heap c)
-bound_term es st x d c e = ap (λ k. put (made es (before (Bound x d) st)) (slot_term st.heap k x)) e ∙ ap (put (made es (before (Bound x d) st))) (slot_term-slot_of st.heap c x)
+bound_term : (m : ℕ → Tree ℕ) (st : Store) (x : ℕ) (c : Value) → slot_at st.slots x ≡ slot_of c → put m (slot_term st.heap (slot_at st.slots x) x) ≡ put m (value_term st.heap c)
+bound_term m st x c e = ap (λ k. put m (slot_term st.heap k x)) e ∙ ap (put m) (slot_term-slot_of st.heap c x)
+
+-- where s makes x equal to what it is bound to, it goes through the change too
+bound_most : (m s : ℕ → Tree ℕ) (st : Store) (x : ℕ) (c : Value) → slot_at st.slots x ≡ slot_of c → Equates st s → ((v : ℕ) → put s (m v) ≡ s v) → (v : ℕ) → put s (put (single x (put m (slot_term st.heap (slot_at st.slots x) x))) (m v)) ≡ s v
+bound_most m s st x c e q h v =
+    let u = put m (slot_term st.heap (slot_at st.slots x) x) in
+    let same : s x ≡ put s u = q x c e ∙ sym (put_through s m (value_term st.heap c) h) ∙ ap (put s) (sym (bound_term m st x c e)) in
+    after_single s x u (m v) same ∙ h v
+
+-- x goes to what it is bound to, and the earlier substitution left it as it is
+bound_equates : (m : ℕ → Tree ℕ) (st : Store) (x : ℕ) (b : Value) → slot_at st.slots x ≡ slot_of b → (IsIn x (variables (put m (value_term st.heap b))) → ⊥) → m x ≡ variable x → ((v : ℕ) (c : Value) → (v ≡ x → ⊥) → slot_at st.slots v ≡ slot_of c → m v ≡ put m (value_term st.heap c)) → Equates st (λ v. put (single x (put m (slot_term st.heap (slot_at st.slots x) x))) (m v))
+bound_equates m st x b k a free others v c h =
+    let u = put m (slot_term st.heap (slot_at st.slots x) x) in
+    let e : u ≡ put m (value_term st.heap b) = bound_term m st x b k in
+    let through = put-put (single x u) m in
+    elim (same_or_not v x) [
+      | inl i ↦ (
+          let same : c ≡ b = one_value c b (sym h ∙ ap (slot_at st.slots) i ∙ k) in
+          ap (λ w. put (single x u) (m w)) i ∙ ap (put (single x u)) free ∙ single_same x u
+          ∙ sym (untouched x u u (λ j. a (subst (λ (z : Tree ℕ). IsIn x (variables z)) e j)))
+          ∙ ap (put (single x u)) e ∙ through (value_term st.heap b)
+          ∙ ap (λ z. put (λ w. put (single x u) (m w)) (value_term st.heap z)) (sym same))
+      | inr i ↦ ap (put (single x u)) (others v c i h) ∙ through (value_term st.heap c)
+    ]
 
 plain_most : (s m : ℕ → Tree ℕ) (v : ℕ) → put s (m v) ≡ s v → put s (put variable (m v)) ≡ s v
 plain_most s m v h = ap (put s) (put-variable (m v)) ∙ h
@@ -68,13 +96,10 @@ pub made_most : (es : List Entry) (st : Store) (s : ℕ → Tree ℕ) → IsLink
 made_most [] st s l k q v = refl
 made_most (Grown n ∷ es) st s l k q v = plain_most s (made es (before (Grown n) st)) v (made_most es (before (Grown n) st) s k.1 k.2 (equates_before (Grown n) st s l k.1 q) v)
 made_most (Held n ∷ es) st s l k q v = plain_most s (made es (before (Held n) st)) v (made_most es (before (Held n) st) s k.1 k.2 (equates_before (Held n) st s l k.1 q) v)
-made_most (Bound x d ∷ es) st s l k q v =
-    let m = made es (before (Bound x d) st) in
-    let h = made_most es (before (Bound x d) st) s k.1 k.2 (equates_before (Bound x d) st s l k.1 q) in
-    let e : s x ≡ put s (put m (slot_term st.heap (slot_at st.slots x) x)) = q x k.0.0 k.0.1 ∙ sym (put_through s m (value_term st.heap k.0.0) h) ∙ ap (put s) (sym (bound_term es st x d k.0.0 k.0.1)) in
-    after_single s x (put m (slot_term st.heap (slot_at st.slots x) x)) (m v) e ∙ h v
+made_most (Bound x d ∷ es) st s l k q v = bound_most (made es (before (Bound x d) st)) s st x k.0.0 k.0.1 q (made_most es (before (Bound x d) st) s k.1 k.2 (equates_before (Bound x d) st s l k.1 q)) v
 made_most (Narrowed x d ∷ es) st s l k q v = plain_most s (made es (before (Narrowed x d) st)) v (made_most es (before (Narrowed x d) st) s k.1 k.2 (equates_before (Narrowed x d) st s l k.1 q) v)
 made_most (Added n ∷ es) st s l k q v = plain_most s (made es (before (Added n) st)) v (made_most es (before (Added n) st) s k.1 k.2 (equates_before (Added n) st s l k.1 q) v)
+made_most (Defined n ∷ es) st s l k q v = bound_most (made es (before (Defined n) st)) s st n k.0.0 k.0.1 q (made_most es (before (Defined n) st) s k.1 k.2 (equates_before (Defined n) st s l k.1 q)) v
 
 -- the same of a change that binds nothing
 plain_equates : (e : Entry) (st : Store) (m : ℕ → Tree ℕ) → IsLinked st → IsLinked (before e st) → ((v : ℕ) (c : Value) → slot_at st.slots v ≡ slot_of c → slot_at (before e st).slots v ≡ slot_of c) → Equates (before e st) m → Equates st (λ v. put variable (m v))
@@ -91,25 +116,26 @@ added_stays es st n k v c h = elim (below_or v n) [
   | inr l ↦ (let f = k.1 v l in absurd (never_free c f.0 (sym h ∙ f.1)))
 ]
 
+-- a bound variable other than the last one is before it
+defined_below : (ss : List Slot) (n v : ℕ) (c : Value) → (v ≡ n → ⊥) → length ss ≡ suc n → slot_at ss v ≡ slot_of c → v < n
+defined_below ss n v c d e h = elim (below_or v n) [ inl l ↦ l | inr l ↦ absurd (d (let m = bound_within ss v c h in omega (arith, l, m, e))) ]
+
 -- it makes each variable equal to what it is bound to
 pub made_equates : (es : List Entry) (st : Store) → IsLinked st → IsSound es st → Equates st (made es st)
 made_equates [] st l k v c h = absurd (never_free c None (sym h ∙ ap (λ ss. slot_at ss v) k))
 made_equates (Grown n ∷ es) st l k v c h = plain_equates (Grown n) st (made es (before (Grown n) st)) l k.1 (λ v c g. g) (made_equates es (before (Grown n) st) k.1 k.2) v c h
 made_equates (Held n ∷ es) st l k v c h = plain_equates (Held n) st (made es (before (Held n) st)) l k.1 (λ v c g. g) (made_equates es (before (Held n) st) k.1 k.2) v c h
 made_equates (Bound x d ∷ es) st l k v c h =
-    let m = made es (before (Bound x d) st) in
-    let u = put m (slot_term st.heap (slot_at st.slots x) x) in
-    let e : u ≡ put m (value_term st.heap k.0.0) = bound_term es st x d k.0.0 k.0.1 in
-    let through = put-put (single x u) m in
-    elim (same_or_not v x) [
-      | inl i ↦ (
-          let same : c ≡ k.0.0 = one_value c k.0.0 (sym h ∙ ap (slot_at st.slots) i ∙ k.0.1) in
-          let free : m x ≡ variable x = made_free es (before (Bound x d) st) x d k.2 (at_same st.slots x (slots.Free d) (bound_within st.slots x k.0.0 k.0.1)) in
-          ap (λ w. put (single x u) (m w)) i ∙ ap (put (single x u)) free ∙ single_same x u
-          ∙ sym (untouched x u u (λ j. k.0.2 (subst (λ (z : Tree ℕ). IsIn x (variables z)) e j)))
-          ∙ ap (put (single x u)) e ∙ through (value_term st.heap k.0.0)
-          ∙ ap (λ z. put (λ w. put (single x u) (m w)) (value_term st.heap z)) (sym same))
-      | inr i ↦ ap (put (single x u)) (made_equates es (before (Bound x d) st) k.1 k.2 v c (at_other st.slots x v (slots.Free d) i ∙ h)) ∙ through (value_term st.heap c)
-    ]
+    let b = before (Bound x d) st in
+    bound_equates (made es b) st x k.0.0 k.0.1 k.0.2
+    (made_free es b x d k.2 (at_same st.slots x (slots.Free d) (bound_within st.slots x k.0.0 k.0.1)))
+    (λ w e i g. made_equates es b k.1 k.2 w e (at_other st.slots x w (slots.Free d) i ∙ g))
+    v c h
 made_equates (Narrowed x d ∷ es) st l k v c h = plain_equates (Narrowed x d) st (made es (before (Narrowed x d) st)) l k.1 (narrowed_stays es st x d k.0) (made_equates es (before (Narrowed x d) st) k.1 k.2) v c h
 made_equates (Added n ∷ es) st l k v c h = plain_equates (Added n) st (made es (before (Added n) st)) l k.1 (added_stays es st n k.0) (made_equates es (before (Added n) st) k.1 k.2) v c h
+made_equates (Defined n ∷ es) st l k v c h =
+    let b = before (Defined n) st in
+    bound_equates (made es b) st n k.0.0 k.0.1 k.0.2
+    (made_free es b n None k.2 (past_take st.slots n n (omega arith)))
+    (λ w e i g. made_equates es b k.1 k.2 w e (at_take st.slots n w (defined_below st.slots n w e i k.0.3 g) ∙ g))
+    v c h

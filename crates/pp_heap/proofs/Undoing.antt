@@ -2,7 +2,7 @@
 use Rattle.std.proofs.Common.{◌≡◌, ℕ, ◌<◌, ◌≤◌, ◌^◌, List, [], ◌∷◌, length, sym, subst, arith, length-set}
 use Rattle.std.proofs.lemmas.List.{length-take}
 use Rattle.pp_heap.specs.declared.state.Entry.{Entry}
-use Rattle.pp_heap.specs.declared.state.Entry.TheVariants.{Grown, Held, Bound, Narrowed, Added}
+use Rattle.pp_heap.specs.declared.state.Entry.TheVariants.{Grown, Held, Bound, Narrowed, Added, Defined}
 use Rattle.pp_heap.specs.declared.state.Slot.TheVariants.{Free}
 use Rattle.pp_heap.specs.declared.state.State.{State}
 use Rattle.pp_heap.specs.Stores.{Store, store_of, entries_of, before}
@@ -16,6 +16,7 @@ step_within (Held n) es st h = tt
 step_within (Bound x d) es st h = bound_within st.slots x h.0 h.1
 step_within (Narrowed x d) es st h = h.2
 step_within (Added n) es st h = tt
+step_within (Defined n) es st h = tt
 
 smaller : (e : Entry) (st : Store) (n : ℕ) → length st.heap < n → length (before e st).heap < n
 smaller (Grown k) st n h = omega (arith, length-take k st.heap)
@@ -23,6 +24,7 @@ smaller (Held k) st n h = h
 smaller (Bound x d) st n h = h
 smaller (Narrowed x d) st n h = h
 smaller (Added k) st n h = h
+smaller (Defined k) st n h = h
 
 fewer : (e : Entry) (st : Store) (n : ℕ) → length st.slots ≤ n → length (before e st).slots ≤ n
 fewer (Grown k) st n h = h
@@ -30,6 +32,7 @@ fewer (Held k) st n h = h
 fewer (Bound x d) st n h = omega (arith, h, length-set st.slots x (Free d))
 fewer (Narrowed x d) st n h = omega (arith, h, length-set st.slots x (Free d))
 fewer (Added k) st n h = omega (arith, length-take k st.slots)
+fewer (Defined k) st n h = omega (arith, length-take k st.slots)
 
 -- new is old before its last change
 pub record IsUndone (old new : State) (e : Entry) : Type 0 where

@@ -1,5 +1,5 @@
 -- The invariant of bindings.
-use Rattle.std.specs.Prelude.{◌≡◌, ℕ, ℤ, ◌<◌, ◌≤◌, ◌^◌, List, [], ◌∷◌, ◌++◌, length, All, Option, Some, None}
+use Rattle.std.specs.Prelude.{◌≡◌, ℕ, ℤ, suc, ◌<◌, ◌≤◌, ◌^◌, List, [], ◌∷◌, ◌++◌, length, All, Option, Some, None}
 use Rattle.std.specs.FinSet as set
 use Rattle.pp_row.specs.declared.cell.Cell.{Cell}
 use Rattle.pp_row.specs.declared.cell.Cell.TheVariants as cells
@@ -12,7 +12,7 @@ use Rattle.pp_heap.specs.declared.state.Slot.TheVariants.{Free}
 use Rattle.pp_heap.specs.declared.state.Value.{Value}
 use Rattle.pp_heap.specs.declared.state.Value.TheVariants.{Variable, Int, Atom, Compound}
 use Rattle.pp_heap.specs.declared.state.Entry.{Entry}
-use Rattle.pp_heap.specs.declared.state.Entry.TheVariants.{Grown, Held, Bound, Narrowed, Added}
+use Rattle.pp_heap.specs.declared.state.Entry.TheVariants.{Grown, Held, Bound, Narrowed, Added, Defined}
 use Rattle.pp_heap.specs.declared.state.State.{State}
 use Rattle.pp_heap.specs.Values.{slot_at, cell_at, slot_of, value_term}
 use Rattle.pp_heap.specs.Stores.{Store, store_of, entries_of, before, undone, made}
@@ -57,6 +57,7 @@ IsWithin (Held n) st = Unit {0}
 IsWithin (Bound x d) st = x < length st.slots
 IsWithin (Narrowed x d) st = x < length st.slots
 IsWithin (Added n) st = Unit {0}
+IsWithin (Defined n) st = Unit {0}
 
 -- the contents are those after the change
 abbrev pub IsStep : Entry → List Entry → Store → Type 0
@@ -65,6 +66,7 @@ IsStep (Held n) es st = n ≤ length st.domains
 IsStep (Bound x d) es st = (c : Value) × (slot_at st.slots x ≡ slot_of c) × (IsIn x (variables (put (made es (before (Bound x d) st)) (value_term st.heap c))) → ⊥)
 IsStep (Narrowed x d) es st = (e : Option ℕ) × (slot_at st.slots x ≡ Free e) × (x < length st.slots)
 IsStep (Added n) es st = (n ≤ length st.slots) × ((v : ℕ) → n ≤ v → (d : Option ℕ) × (slot_at st.slots v ≡ Free d))
+IsStep (Defined n) es st = (c : Value) × (slot_at st.slots n ≡ slot_of c) × (IsIn n (variables (put (made es (before (Defined n) st)) (value_term st.heap c))) → ⊥) × (length st.slots ≡ suc n)
 
 -- each change was made to contents that were linked; there was no variable before the first
 abbrev pub IsSound : List Entry → Store → Type 0

@@ -5,7 +5,7 @@ use Rattle.pp_algebra.specs.Terms.{Tree, variable, put}
 use Rattle.pp_heap.specs.declared.state.Slot.{Slot}
 use Rattle.pp_heap.specs.declared.state.Slot.TheVariants.{Free}
 use Rattle.pp_heap.specs.declared.state.Entry.{Entry}
-use Rattle.pp_heap.specs.declared.state.Entry.TheVariants.{Grown, Held, Bound, Narrowed, Added}
+use Rattle.pp_heap.specs.declared.state.Entry.TheVariants.{Grown, Held, Bound, Narrowed, Added, Defined}
 use Rattle.pp_heap.specs.declared.state.State.{State}
 use Rattle.pp_heap.specs.Values.{slot_at, slot_term}
 
@@ -28,6 +28,7 @@ before (Held n) st = record st { domains = take n st.domains }
 before (Bound x d) st = record st { slots = set st.slots x (Free d) }
 before (Narrowed x d) st = record st { slots = set st.slots x (Free d) }
 before (Added n) st = record st { slots = take n st.slots }
+before (Defined n) st = record st { slots = take n st.slots }
 
 -- before all of these, the last one of them first
 abbrev pub undone : List Entry → Store → Store
@@ -45,6 +46,7 @@ step_by (Held n) st earlier v = variable v
 step_by (Bound x d) st earlier v = single x (put earlier (slot_term st.heap (slot_at st.slots x) x)) v
 step_by (Narrowed x d) st earlier v = variable v
 step_by (Added n) st earlier v = variable v
+step_by (Defined n) st earlier v = single n (put earlier (slot_term st.heap (slot_at st.slots n) n)) v
 
 -- the substitution that the changes make
 abbrev pub made : List Entry → Store → ℕ → Tree ℕ

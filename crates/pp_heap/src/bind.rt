@@ -51,6 +51,19 @@ impl State {
         Ok(())
     }
 
+    /// Adds a variable that is bound, and answers its number.
+    pub fn define(&mut self, value: Value) -> Result<u32, AllocError>
+        ensures number { IfOk result (λ n. n ≡ length self.old.slots.items) }
+        ensures done { IfOk result (λ n. IsChange self.old self.new (Entry.Defined n) (record (store_of self.old) { slots = self.old.slots.items ++ slot_of value ∷ [] })) }
+        ensures err { OnErr result (IsSame self.old self.new) }
+    {
+        let number = u32::try_from(self.slots.len()).map_err(|_| AllocError)?;
+        self.slots.reserve(1)?;
+        self.trail.push(Entry::Defined(number))?;
+        self.slots.push(value.slot())?;
+        Ok(number)
+    }
+
     /// Gives a free variable another domain.
     fn give(&mut self, variable: u32, old: Option<u32>, new: Option<u32>) -> Result<(), AllocError>
         requires free { IsFree (store_of self.old) variable old }

@@ -38,8 +38,10 @@ pub enum Entry {
     Bound(u32, Option<u32>),
     /// A variable got another domain in place of this one.
     Narrowed(u32, Option<u32>),
-    /// A variable of this number was added.
+    /// Free variables were added, before which there were so many.
     Added(u32),
+    /// A variable of this number was added, and bound.
+    Defined(u32),
 }
 
 /// The cells of all terms, the domains, a slot for each variable, and the changes in their order.

@@ -18,7 +18,7 @@ impl State {
             Entry::Bound(variable, domain) | Entry::Narrowed(variable, domain) => {
                 self.slots[variable as usize] = Slot::Free(domain);
             }
-            Entry::Added(length) => self.slots.truncate(length as usize),
+            Entry::Added(length) | Entry::Defined(length) => self.slots.truncate(length as usize),
         }
     }
 

@@ -1,5 +1,5 @@
 -- What is found from the root of a goal's search is its verdict.
-use Rattle.std.proofs.Common.{◌≡◌, ℕ, [], Result, Ok, Err, refl, ap, sym, ◌∙◌, subst}
+use Rattle.std.proofs.Common.{◌≡◌, ℕ, [], Some, Result, Ok, Err, refl, ap, sym, ◌∙◌, subst}
 use Rattle.std.specs.Prelude.{IfOk}
 use Rattle.pp_algebra.specs.Rows.{Row}
 use Rattle.pp_algebra.specs.Numbered.{call}
@@ -15,9 +15,12 @@ use Rattle.pp_sld.specs.Walks.{settled_by}
 use Rattle.pp_sld.proofs.Trees.{tree, tree-IsSearch}
 use Rattle.pp_sld.proofs.Walks.{leaves_under, walk_gives_verdict}
 use Rattle.pp_sld.proofs.OneVerdict.{verdict_of_tree}
+use Rattle.pp_sld.proofs.Verdicts.{outcome_is}
 use Rattle.pp_walk.specs.Places.{Place}
 use Rattle.pp_find.specs.declared.verdict.Verdict.{Verdict}
-use Rattle.pp_find.specs.Meanings.{verdict_by, verdict_to}
+use Rattle.pp_find.specs.Meanings.{verdict_by, verdict_to, outcome_by}
+use Rattle.pp_find.specs.Laws.{there}
+use Rattle.pp_search.specs.Worths.{worth_of}
 use Rattle.pp_infer.specs.Roots.{IsAtRoot, IsAtSomeRoot}
 
 pub verdict_by-verdict_to : (v : verdicts.Verdict) → verdict_by (verdict_to v) ≡ v
@@ -48,3 +51,11 @@ module _ (clauses : Program) (p : Place) (c : Row) where
 
     pub is_verdict : (f : Finding) (v : Verdict) → v ≡ verdict_to (outcome c f) → ((t : Search) → IsSearch clauses p.here t → f ≡ finding_of m (met (until (settled_by m c) [] (trace t)))) → HasVerdict clauses depth m shape face (verdict_by v)
     is_verdict f v g h = subst (HasVerdict clauses depth m shape face) (sym (ap verdict_by g ∙ verdict_by-verdict_to (outcome c f))) (comes_to f h)
+
+-- what the whole search is worth comes to the verdict
+pub whole_verdict : (clauses : Program) (shape : Shape) (face : Row) (depth : ℕ) (m : Mode) (c : Row) (v : Verdict) → c ≡ call face → v ≡ outcome_by c (worth_of clauses shape face depth m (Some [])) → HasVerdict clauses depth m shape face (verdict_by v)
+whole_verdict clauses shape face depth m c v called g =
+    let t = tree clauses (root shape face depth) in
+    let f = finding_of m (leaves t) in
+    let e = ap verdict_by g ∙ (ap (λ z. verdict_by (verdict_to (outcome c z))) (there f) ∙ (verdict_by-verdict_to (outcome c f) ∙ (ap (λ x. outcome x f) called ∙ outcome_is m (call face) (answer_rows (leaves t)) (loose_rows (leaves t))))) in
+    subst (HasVerdict clauses depth m shape face) (sym e) (verdict_of_tree clauses depth m shape face t (tree-IsSearch clauses (root shape face depth)))

@@ -9,9 +9,9 @@ ghost use Rattle.pp_walk.specs.Found.{IsWithinWalk};
 ghost use Rattle.pp_find.specs.Meanings.{verdict_by};
 ghost use Rattle.pp_infer.specs.Roots.{IsAtRoot, IsAtSomeRoot};
 
-use crate::gathered::Gathered;
 use pp_find::Verdict;
 use pp_row::Row;
+use pp_search::Gathered;
 use pp_term::Mode;
 use pp_walk::{SearchMachine, Steps, gather};
 use std::alloc::{AllocError, Global};

@@ -1,2 +1,2 @@
 //! What no contract says: that a call with ample memory answers, and that it ends soon.
-mod alone;
+mod verdicts;

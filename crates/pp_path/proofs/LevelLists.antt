@@ -1,11 +1,12 @@
 -- Lists of levels: where they split, how they move on, and that they stay levels.
-use Rattle.std.proofs.Common.{◌≡◌, ℕ, zero, suc, rules, ◌+◌, ◌<◌, Bool, true, false, cond, List, [], ◌∷◌, ◌++◌, length, map, get_or, take, drop, set, Some, None, refl, ap, sym, ◌∙◌, subst, arith}
-use Rattle.std.proofs.Math.Seq.{drop-cons}
+use Rattle.std.proofs.Common.{◌≡◌, ℕ, zero, suc, rules, ◌+◌, ◌-◌, ◌<◌, Bool, true, false, cond, List, [], ◌∷◌, ◌++◌, length, map, get_or, take, drop, set, Some, None, refl, ap, sym, ◌∙◌, subst, arith, true≢false}
+use Rattle.std.proofs.Math.Seq.{drop-cons, get_or-append_seam, set-append_seam}
+use Rattle.std.proofs.lemmas.Bool.{lt-ltb}
 use Rattle.pp_sld.specs.Works as works
 use Rattle.pp_sld.specs.Works.{level, moved, next_levels, behind, split_levels, works_of}
 use Rattle.pp_path.specs.declared.levels.Level.{Level}
 use Rattle.pp_path.specs.Works as here
-use Rattle.pp_path.specs.Works.{level_by, work_by, has_sibling, AreLevels, SplitsAt, AreLast}
+use Rattle.pp_path.specs.Works.{level_by, work_by, has_sibling, AreLevels, SplitsAt, AreLast, skipped, HasMore}
 
 -- ===== where a path splits
 
@@ -108,6 +109,33 @@ pub some_next : (b : Bool) (ls : List Level) (l : Level) → (b ≡ true → ls 
     → work_by (cond b None (Some (ls ++ here.level (suc l.now) l.end ∷ []))) ≡ works.work_of (next_levels (map level_by (ls ++ l ∷ [])))
 some_next true ls l e h = absurd (no_snoc ls l (e refl))
 some_next false ls l e h = sym (ap works.work_of (next_last ls l true h))
+
+-- so many children on at the last level
+pub skipped_last : (n : ℕ) (ls : List Level) (l : Level) → l.now + n < l.end → works.at (map level_by (ls ++ here.level (l.now + n) l.end ∷ [])) ≡ skipped n (works.at (map level_by (ls ++ l ∷ [])))
+skipped_last zero ls l h = let e : l.now + 0 ≡ l.now = omega arith in ap (λ k. works.at (map level_by (ls ++ here.level k l.end ∷ []))) e
+skipped_last (suc n) ls l h =
+    let on : Level = here.level (suc l.now) l.end in
+    let e : l.now + suc n ≡ suc l.now + n = omega arith in
+    let s : has_sibling l ≡ true = lt-ltb (suc l.now) l.end (omega (arith, h)) in
+    ap (λ k. works.at (map level_by (ls ++ here.level k l.end ∷ []))) e
+    ∙ (skipped_last n ls on (omega (arith, h))
+    ∙ ap (skipped n) (some_next false ls l (λ f. absurd (true≢false (sym f))) s))
+
+-- the levels of a work that has more at the last one
+pub levels_with_more : (b : Bool) (ls : List Level) (n : ℕ) → HasMore (cond b None (Some ls)) n → (b ≡ false) × (front : List Level) × (l : Level) × (ls ≡ front ++ l ∷ []) × (l.now + n < l.end)
+levels_with_more true ls n h = absurd (cc h.2)
+levels_with_more false ls n h = (refl, h.0, h.1, cc h.2, h.3)
+
+-- the last level goes on, as it is written
+pub moved_last : (ls ds front new : List Level) (l : Level) (n k : ℕ) → ds ≡ ls → ls ≡ front ++ l ∷ [] → k ≡ length ls → new ≡ set ls (k - 1) (here.level ((get_or ds (k - 1) (here.level 0 0)).now + n) (get_or ds (k - 1) (here.level 0 0)).end) → new ≡ front ++ here.level (l.now + n) l.end ∷ []
+moved_last ls ds front new l n k same e many put =
+    let place : k - 1 ≡ length front = omega (arith, many, ap length e, length_snoc front l) in
+    let old : get_or ds (k - 1) (here.level 0 0) ≡ l = ap (λ v. get_or v (k - 1) (here.level 0 0)) (same ∙ e) ∙ (ap (λ j. get_or (front ++ l ∷ []) j (here.level 0 0)) place ∙ get_or-append_seam front l [] (here.level 0 0)) in
+    put
+    ∙ (ap (λ (x : Level). set ls (k - 1) (here.level (x.now + n) x.end)) old
+    ∙ (ap (λ v. set v (k - 1) (here.level (l.now + n) l.end)) e
+    ∙ (ap (λ j. set (front ++ l ∷ []) j (here.level (l.now + n) l.end)) place
+    ∙ set-append_seam front l [] (here.level (l.now + n) l.end))))
 
 -- what comes of a work, by its levels
 pub next_of : (b : Bool) (ls : List Level) → (b ≡ true → ls ≡ []) → works.next (work_by (cond b None (Some ls))) ≡ works.work_of (next_levels (map level_by ls))

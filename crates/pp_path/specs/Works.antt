@@ -1,5 +1,5 @@
 -- What a work of the code stands for in the definitions of search.
-use Rattle.std.specs.Prelude.{◌≡◌, ℕ, zero, suc, ◌<◌, Bool, true, false, List, [], ◌∷◌, map, Option, Some, None}
+use Rattle.std.specs.Prelude.{◌≡◌, ℕ, zero, suc, ◌+◌, ◌<◌, Bool, true, false, List, [], ◌∷◌, ◌++◌, map, Option, Some, None}
 use Rattle.pp_sld.specs.Works as works
 use Rattle.pp_path.specs.declared.levels.Level.{Level}
 
@@ -43,3 +43,12 @@ AreLast (l ∷ ls) = (has_sibling l ≡ false) × AreLast ls
 abbrev pub split_by : Option (List Level) → Option (Option (List Level)) → Option (works.Work × works.Work)
 split_by stays None = None
 split_by stays (Some other) = Some (work_by stays, work_by other)
+
+-- on to the next part so many times
+abbrev pub skipped : ℕ → works.Work → works.Work
+skipped zero w = w
+skipped (suc n) w = skipped n (works.next w)
+
+-- so many children are left at the last level
+abbrev pub HasMore : Option (List Level) → ℕ → Type 0
+HasMore w n = (ls : List Level) × (l : Level) × (w ≡ Some (ls ++ l ∷ [])) × (l.now + n < l.end)

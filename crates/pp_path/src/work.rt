@@ -2,7 +2,7 @@
 ghost use Rattle.std.specs.Prelude.{◌≡◌, ◌≢◌, ◌↔◌, ◌<◌, ◌≤◌, [], ◌∷◌, ◌++◌, true, false, not, IsTrue, IfOk, IfNone, OnOk, OnErr, Some, None, length, slice_set};
 ghost use Rattle.smallvec.specs.SmallVec.{small_vec_len};
 ghost use Rattle.pp_sld.specs.Works as works;
-ghost use Rattle.pp_path.specs.Works.{level, level_by, work_by, levels_of, split_by};
+ghost use Rattle.pp_path.specs.Works.{level, level_by, work_by, levels_of, split_by, skipped, HasMore};
 
 use crate::Level;
 use crate::levels::{first_with_sibling, has_sibling, same_levels};
@@ -111,6 +111,21 @@ impl Work {
         }
         self.is_spent = true;
         false
+    }
+
+    /// Gives up so many children of the last level at once, and the subtree at the path with them. It is as many calls
+    /// of `next`.
+    pub fn skip(&mut self, count: u64)
+        requires { HasMore self.old count }
+        ensures { work_by self.new ≡ skipped count (work_by self.old) }
+    {
+        let place = self.levels.len() - 1;
+        let last = self.levels[place];
+        let moved = Level {
+            now: last.now + count,
+            end: last.end,
+        };
+        put(&mut self.levels, place, moved);
     }
 
     /// Splits the siblings of the first level that has any left off into a work of their own; None where no level

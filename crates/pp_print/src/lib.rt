@@ -2,6 +2,7 @@
 #![tactic(auto)]
 
 mod atoms;
+mod changes;
 mod domains;
 mod numbers;
 mod occurring;
@@ -9,6 +10,7 @@ mod rows;
 mod stores;
 mod terms;
 
+pub use changes::write_change_line;
 pub use domains::domain_text;
 pub use rows::row_text;
 pub use stores::store_text;

@@ -38,12 +38,19 @@ fn write_domains(out: &mut Vec<u8>, domains: &[Option<Domain>]) -> Result<(), Al
     Ok(())
 }
 
+/// Appends a row.
+pub(crate) fn write_row(out: &mut Vec<u8>, names: &Names, row: &Row) -> Result<(), AllocError>
+    ensures { OnOk result (out.new.items ≡ out.old.items ++ row_text names.now row.now) }
+{
+    write_columns(out, names, row.columns())?;
+    write_domains(out, row.domains())
+}
+
 /// A row on one line.
 pub fn row_text(alloc: Global, names: &Names, row: &Row) -> Result<Vec<u8>, AllocError>
     ensures { IfOk result (λ t. t.items ≡ row_text names.now row.now) }
 {
     let mut out = Vec::new(alloc);
-    write_columns(&mut out, names, row.columns())?;
-    write_domains(&mut out, row.domains())?;
+    write_row(&mut out, names, row)?;
     Ok(out)
 }

@@ -8,7 +8,6 @@ use Rattle.pp_language.specs.declared.command.CommandKind.TheVariants.{Make}
 use Rattle.pp_language.specs.declared.command.Command.{Command}
 use Rattle.pp_language.specs.declared.which.Which.{Which}
 use Rattle.pp_language.specs.declared.status.Status.{Status}
-use Rattle.pp_language.specs.Commands.{AreWordsOfAlone}
 use Rattle.pp_language.specs.Texts.{Text}
 use Rattle.pp_language.specs.Faults.{IsSyntaxFault}
 use Rattle.pp_language.specs.Limits.{Writes, Passes}
@@ -17,7 +16,7 @@ use Rattle.pp_language.specs.Programs.{Query, Written}
 use Rattle.pp_propagation.specs.Stores.{Asked, face, face_variables, apply}
 use Rattle.pp_propagation.specs.Turns.{Commit, State, Turn}
 use Rattle.pp_propagation.specs.Runs.{Run, opening, Turns, IsRunOn, IsRunFrom, IsRun}
-use Rattle.pp_propagation.specs.Replies.{AreBuiltWords, IsUnserved, IsReply}
+use Rattle.pp_propagation.specs.Replies.{IsUnserved, IsReply}
 use Rattle.pp_propagation.specs.Histories.{Change}
 use Rattle.pp_propagation.specs.Watchers.{Watcher, HasRoom, after}
 
@@ -58,13 +57,10 @@ RunsPassThrough = (clauses : Program) (goals : List Asked) (depth n rest : ℕ) 
 abbrev pub ServesOne : (List Text → Command → Type 0) → Type 0
 ServesOne serves = (words : List Text) (c d : Command) → serves words c → serves words d → c ≡ d
 
--- so it is with the words of the call that is built, and these are words of `alone`
-abbrev pub BuiltWordsAreWords : Type 0
-BuiltWordsAreWords = ServesOne AreBuiltWords × ((words : List Text) (c : Command) → AreBuiltWords words c → AreWordsOfAlone words c)
-
--- words, a text and what was told have at most one reply
+-- words, a text and the watchers before have at most one reply, which says what the watchers are then
 abbrev pub RepliesOnce : (List Text → Command → Type 0) → Type 0
-RepliesOnce serves = (words : List Text) (text told : Text) (s t : Status) (b c : Text) → IsReply serves words text told s b → IsReply serves words text told t c → (s ≡ t) × (b ≡ c)
+RepliesOnce serves = (words : List Text) (text : Text) (old new later : List Watcher) (s t : Status) (b c : Text)
+    → IsReply serves words text old new s b → IsReply serves words text old later t c → (new ≡ later) × (s ≡ t) × (b ≡ c)
 
 -- it is known which command the words ask for, if any
 abbrev pub IsAsked : (List Text → Command → Type 0) → List Text → Type 0
@@ -81,7 +77,8 @@ IsMeant kind text = HasMeaning text
 
 -- whatever is asked for, and whatever the text means that is run, there is a reply
 abbrev pub HasReply : (List Text → Command → Type 0) → Type 0
-HasReply serves = (words : List Text) (text told : Text) → IsAsked serves words → ((c : Command) → serves words c → IsMeant c.kind text) → (s : Status) × (b : Text) × IsReply serves words text told s b
+HasReply serves = (words : List Text) (text : Text) (old : List Watcher) → IsAsked serves words → ((c : Command) → serves words c → IsMeant c.kind text)
+    → (new : List Watcher) × (s : Status) × (b : Text) × IsReply serves words text old new s b
 
 -- watchers that note some changes and then others note them all
 abbrev pub NotedInTurn : Type 0

@@ -6,7 +6,8 @@ use Rattle.pp_sld.specs.Goals.{Program}
 use Rattle.pp_language.specs.Programs.{Query}
 use Rattle.pp_propagation.specs.Stores.{Asked, goals_of, Begins, BeginsNowhere}
 use Rattle.pp_propagation.specs.Turns.{Commit, State, Turn}
-use Rattle.pp_propagation.specs.Histories.{numbers_from}
+use Rattle.pp_propagation.specs.Histories.{numbers_from, changes}
+use Rattle.pp_propagation.specs.Watchers.{Watcher, after, NotedInPart}
 
 pub data End : Type 0 where
   yes no stopped : End
@@ -56,6 +57,12 @@ module _ (clauses : Program) (goals : List Asked) (depth : ℕ) where
   -- the run from a store that is lent
   abbrev pub IsRunFrom : ℕ → Row → Run → Type 0
   IsRunFrom turns store r = IsRunOn turns (opening goals store) r
+
+-- the watchers between two turns, or where memory was wanted while they were told of the change of the next one
+pub data HaveNoted (clauses : Program) (goals : List Asked) (depth : ℕ) (s : State) (old new : List Watcher) : Type 0 where
+  all_changes : new ≡ after old (changes s.history) → HaveNoted clauses goals depth s old new
+  part_of_the_next : (c : Commit) (next : State) → Turn clauses goals depth s c (Some next)
+      → NotedInPart (changes next.history) (changes s.history) old new → HaveNoted clauses goals depth s old new
 
 -- the run of a query over a program, at a depth and with so many turns at most
 pub data IsRun (clauses : Program) (q : Query) (depth turns : ℕ) (r : Run) : Type 0 where

@@ -1,5 +1,5 @@
 -- Watchers: what they noted of a run's changes, which of them leave, and what the others tell.
-use Rattle.std.specs.Prelude.{◌≢◌, ℕ, ◌-◌, Bool, true, nat_lt, List, ◌++◌, length, map, filter, Option, Some, None}
+use Rattle.std.specs.Prelude.{◌≡◌, ◌≢◌, ℕ, ◌-◌, Bool, true, nat_lt, List, ◌++◌, length, map, filter, Option, Some, None}
 use Rattle.std.specs.List.{flat_map}
 use Rattle.pp_language.specs.Texts.{Text}
 use Rattle.pp_language.specs.Answers.{lines}
@@ -39,3 +39,8 @@ watcher_text names w = lines (map (λ (c : Change). change_line names c.turn c.g
 -- what the watchers tell, in their order
 abbrev pub told : List Text → List Watcher → Text
 told names ws = flat_map (watcher_text names) ws
+
+-- the first of the watchers noted the one list of changes, and the others the other
+abbrev pub NotedInPart : List Change → List Change → List Watcher → List Watcher → Type 0
+NotedInPart more fewer old new =
+    (first : List Watcher) × (others : List Watcher) × (old ≡ first ++ others) × (new ≡ after first more ++ after others fewer)

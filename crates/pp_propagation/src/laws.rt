@@ -1,7 +1,6 @@
 //! The laws of runs.
 ghost use Rattle.pp_language.specs.Commands.{AreWordsOf, AreWordsOfAlone};
-ghost use Rattle.pp_propagation.specs.Replies.{AreBuiltWords};
-ghost use Rattle.pp_propagation.specs.Laws.{BuiltWordsAreWords, FacesAreRows, StoresStayRows, HasOneTurn, HasOneRunFrom, HasOneRun, TurnsAreCounted, RunsGoOn, RunsPassThrough, RepliesOnce, HasReply, NotedInTurn, NothingNoted};
+ghost use Rattle.pp_propagation.specs.Laws.{FacesAreRows, StoresStayRows, HasOneTurn, HasOneRunFrom, HasOneRun, TurnsAreCounted, RunsGoOn, RunsPassThrough, ServesOne, RepliesOnce, HasReply, NotedInTurn, NothingNoted};
 
 /// Faces and stores are rows, numbered by first occurrence and with domains of two integers or more.
 pub fn faces_and_stores_are_rows()
@@ -24,17 +23,16 @@ pub fn run_is_made_of_turns()
     ensures passes_through { RunsPassThrough }
 {}
 
-/// Words, a text and what the watchers told call for at most one reply, and for one where it is known what the words
-/// ask for and what the text means. So it is for the program's words, for those of the command `alone`, and for those
-/// of the call that is built.
+/// Words ask for at most one command. Words, a text and the watchers before call for at most one reply, which says what
+/// the watchers are then, and for one where it is known what the words ask for and what the text means. So it is for the
+/// program's words, and for those of the command `alone`.
 pub fn reply_is_unique()
-    ensures words { BuiltWordsAreWords }
+    ensures words { ServesOne AreWordsOf }
+    ensures alone_words { ServesOne AreWordsOfAlone }
     ensures program { RepliesOnce AreWordsOf }
     ensures alone { RepliesOnce AreWordsOfAlone }
-    ensures built { RepliesOnce AreBuiltWords }
     ensures program_has { HasReply AreWordsOf }
     ensures alone_has { HasReply AreWordsOfAlone }
-    ensures built_has { HasReply AreBuiltWords }
 {}
 
 /// Watchers may note changes one after another, or all at once.

@@ -26,7 +26,7 @@ use Rattle.pp_heap.proofs.Forests.{stack_append, more_forest}
 use Rattle.pp_goal.proofs.Places.{one_forest, one_is_forest}
 use Rattle.pp_resolve.specs.Standing.{counted, standing, config_in}
 use Rattle.pp_resolve.specs.Starting.{free_row}
-use Rattle.pp_resolve.proofs.Steps.{numbered_below}
+use Rattle.pp_algebra.proofs.Numbered.{column-from, from-below, count-from, numbered_below}
 
 from-push : (first n : ℕ) → join (variables_from first n) (more (variable (first + n)) none) ≡ variables_from first (n + 1)
 from-push first zero = ap (λ v. more (variable v) none) (omega arith)
@@ -80,20 +80,6 @@ cells_more ts i t out cells l e h f c legal =
 
 -- ===== the root
 
-variable-from : (first n v : ℕ) → v < n → column (variables_from first n) v ≡ variable (first + v)
-variable-from first zero v l = absurd (omega arith)
-variable-from first (suc n) zero l = ap variable (omega arith)
-variable-from first (suc n) (suc v) l = variable-from (suc first) n v (omega arith) ∙ ap variable (omega arith)
-
-in_from : (first n v : ℕ) → IsIn v (variables_all (variables_from first n)) → v < first + n
-in_from first zero v i = absurd i
-in_from first (suc n) v (inl e) = omega arith
-in_from first (suc n) v (inr i) = omega (arith, in_from (suc first) n v i)
-
-pub count-from : (first n : ℕ) → count (variables_from first n) ≡ n
-count-from first zero = refl
-count-from first (suc n) = ap suc (count-from (suc first) n)
-
 -- what is numbered stays so with earlier numbers behind it
 numbered_more : (n m : ℕ) (vs ws : List ℕ) → IsNumbered n vs m → ((v : ℕ) → IsIn v ws → v < m) → IsNumbered n (vs ++ ws) m
 numbered_more n m [] [] h b = h
@@ -113,7 +99,7 @@ module _ (face : Row) (row : IsRow face) (shape : goals.Shape) (depth : ℕ) whe
   raw = put_goal (counted 0) (record { shape = shape; arguments = face.columns })
 
   stays : (ts : Trees ℕ) → ((v : ℕ) → IsIn v (variables_all ts) → v < n) → put_all (value_in free) ts ≡ ts
-  stays ts b = put_all-agree (value_in free) variable ts (λ v i. variable-from 0 n v (b v i) ∙ ap variable (omega arith)) ∙ put_all-variable ts
+  stays ts b = put_all-agree (value_in free) variable ts (λ v i. column-from 0 n v (b v i) ∙ ap variable (omega arith)) ∙ put_all-variable ts
 
   uncounted : put_all (counted 0) face.columns ≡ face.columns
   uncounted = put_all-agree (counted 0) variable face.columns (λ v i. ap variable (omega arith)) ∙ put_all-variable face.columns
@@ -122,7 +108,7 @@ module _ (face : Row) (row : IsRow face) (shape : goals.Shape) (depth : ℕ) whe
   face_below v i = numbered_below (variables_all face.columns) 0 n v row.canonical i
 
   calls_below : (v : ℕ) → IsIn v (variables_all (variables_from 0 n)) → v < n
-  calls_below v i = omega (arith, in_from 0 n v i)
+  calls_below v i = omega (arith, from-below 0 n v i)
 
   standing_root : standing free (raw ∷ []) (variables_from 0 n) depth ≡ root shape face depth
   standing_root =

@@ -10,6 +10,7 @@ use Rattle.pp_algebra.specs.Solve.{Item, equation, membership, put_item, IsSolve
 use Rattle.pp_algebra.specs.Stages.{pattern, ItemsSpeakOf}
 use Rattle.pp_algebra.proofs.Put.{put-variable, put_all-put_all, count-put_all}
 use Rattle.pp_algebra.proofs.Antisym.{put_all-agree}
+use Rattle.pp_algebra.proofs.Numbered.{column-put, numbered_below}
 use Rattle.pp_algebra.proofs.Order.{IsIn-left, IsIn-right}
 use Rattle.pp_algebra.proofs.Solving.{for_some, none_for_any}
 use Rattle.pp_sld.specs.Goals.{Goal, put_goal, with_goals, shapes, row_of}
@@ -33,23 +34,6 @@ in_column : (ts : Trees ℕ) (v w : ℕ) → v < count ts → IsIn w (variables 
 in_column none v w l i = absurd (omega arith)
 in_column (more t ts) zero w l i = IsIn-left w (variables t) (variables_all ts) i
 in_column (more t ts) (suc v) w l i = IsIn-right w (variables t) (variables_all ts) (in_column ts v w (omega arith) i)
-
-column-put : (s : ℕ → Tree ℕ) (ts : Trees ℕ) (v : ℕ) → v < count ts → column (put_all s ts) v ≡ put s (column ts v)
-column-put s none v l = absurd (omega arith)
-column-put s (more t ts) zero l = refl
-column-put s (more t ts) (suc v) l = column-put s ts v (omega arith)
-
-grows : (vs : List ℕ) (n m : ℕ) → IsNumbered n vs m → n ≤ m
-grows [] n m h = omega arith
-grows (x ∷ vs) n m (inl h) = grows vs n m h.1
-grows (x ∷ vs) n m (inr h) = let g = grows vs (suc n) m h.1 in omega arith
-
-pub numbered_below : (vs : List ℕ) (n m v : ℕ) → IsNumbered n vs m → IsIn v vs → v < m
-numbered_below [] n m v h i = absurd i
-numbered_below (x ∷ vs) n m v (inl h) (inl e) = let g = grows vs n m h.1 in omega arith
-numbered_below (x ∷ vs) n m v (inr h) (inl e) = let g = grows vs (suc n) m h.1 in omega arith
-numbered_below (x ∷ vs) n m v (inl h) (inr i) = numbered_below vs n m v h.1 i
-numbered_below (x ∷ vs) n m v (inr h) (inr i) = numbered_below vs (suc n) m v h.1 i
 
 -- the variables of a value are those of the row
 pub value_below : (r : Row) → IsRow r → (v w : ℕ) → v < count r.columns → IsIn w (variables (value_in r v)) → w < length r.domains

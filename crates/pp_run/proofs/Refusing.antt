@@ -1,12 +1,15 @@
 -- From the reply to a text to why it is refused.
-use Rattle.std.proofs.Common.{◌≡◌, List, [], subst, sym, inl, inr, Option, Some, None, IfSome}
+use Rattle.std.proofs.Common.{◌≡◌, ℕ, Bool, List, subst, sym, inl, inr, Option, Some, None, IfSome}
+use Rattle.pp_language.specs.declared.command.CommandKind.{CommandKind}
+use Rattle.pp_language.specs.declared.command.CommandKind.TheVariants.{Run, Alone, Make}
+use Rattle.pp_language.specs.declared.command.Command.{Command}
 use Rattle.pp_language.specs.declared.command.Settings.{Settings}
 use Rattle.pp_language.specs.declared.status.Status.{Status}
 use Rattle.pp_language.specs.declared.status.Status.TheVariants.{Yes, No, Usage, Syntax, Stopped, Limit, ReadFault, WriteFault, Memory}
 use Rattle.pp_language.specs.Texts.{Text}
+use Rattle.pp_propagation.specs.Watchers.{Watcher}
 use Rattle.pp_propagation.specs.Runs.{End, yes, no, stopped}
-use Rattle.pp_propagation.specs.Replies.{status_of, AreBuiltWords, IsReplyWithin, faulty, limited, answered, IsReplyToText, too_long, within, IsReply, usage, served}
-use Rattle.pp_run.proofs.Commands.{to_text}
+use Rattle.pp_propagation.specs.Replies.{status_of, IsReplyWithin, faulty, limited, answered, IsReplyToText, too_long, within, IsReplyBy, IsReply, usage, served}
 use Rattle.pp_run.specs.Endings.{Replied}
 use Rattle.pp_run.specs.Refusals.{HasSyntaxFault, PassesLimit}
 
@@ -27,42 +30,48 @@ of_end text yes = tt
 of_end text no = tt
 of_end text stopped = tt
 
-within_cause : (settings : Settings) (text : Text) (s : Status) (b : Text) → IsReplyWithin settings [] text s b → Cause s text
-within_cause settings text s b (faulty k f e x) = subst (λ t. Cause t text) (sym e) (k, f)
-within_cause settings text s b (limited which p e x) = subst (λ t. Cause t text) (sym e) (inr (which, p))
-within_cause settings text s b (answered w r h e x) = subst (λ t. Cause t text) (sym e) (of_end text r.end)
+module _ (text : Text) (old new : List Watcher) (s : Status) (b : Text) where
+  within_cause : (settings : Settings) (trace : Bool) → IsReplyWithin settings trace text old new s b → Cause s text
+  within_cause settings trace (faulty k f o e x) = subst (λ t. Cause t text) (sym e) (k, f)
+  within_cause settings trace (limited which p o e x) = subst (λ t. Cause t text) (sym e) (inr (which, p))
+  within_cause settings trace (answered w r h o e x) = subst (λ t. Cause t text) (sym e) (of_end text r.end)
 
-text_cause : (settings : Settings) (text : Text) (s : Status) (b : Text) → IsReplyToText settings [] text s b → Cause s text
-text_cause settings text s b (too_long l e x) = subst (λ t. Cause t text) (sym e) (inl l)
-text_cause settings text s b (within l x) = within_cause settings text s b x
+  text_cause : (settings : Settings) (trace : Bool) → IsReplyToText settings trace text old new s b → Cause s text
+  text_cause settings trace (too_long l o e x) = subst (λ t. Cause t text) (sym e) (inl l)
+  text_cause settings trace (within l x) = within_cause settings trace x
 
-reply_cause : (words : List Text) (text : Text) (s : Status) (b : Text) → IsReply AreBuiltWords words text [] s b → Cause s text
-reply_cause words text s b (usage n u) = subst (λ t. Cause t text) (sym u.0) tt
-reply_cause words text s b (served c h r) = text_cause c.settings text s b (to_text words c text s b h r)
+  command_cause : (kind : CommandKind) (c : Command) → IsReplyBy kind c text old new s b → Cause s text
+  command_cause Run c r = text_cause c.settings c.trace r
+  command_cause Alone c r = text_cause c.settings c.trace r
+  command_cause (Make n) c r = subst (λ t. Cause t text) (sym r.ends) (of_end text r.run.end)
 
-module _ (words : List Text) (text : Text) (before after : Option Text) where
-  cause : (s : Status) → Replied (IsReply AreBuiltWords words text []) before after s → Cause s text
-  cause Syntax h = reply_cause words text Syntax h.0 h.1
-  cause Limit h = reply_cause words text Limit h.0 h.1
-  cause Yes h = tt
-  cause No h = tt
-  cause Stopped h = tt
-  cause Usage h = tt
-  cause ReadFault h = tt
-  cause WriteFault h = tt
-  cause Memory h = tt
+  reply_cause : (serves : List Text → Command → Type 0) (words : List Text) → IsReply serves words text old new s b → Cause s text
+  reply_cause serves words (usage n o u) = subst (λ t. Cause t text) (sym u.0) tt
+  reply_cause serves words (served c h r) = command_cause c.kind c r
 
--- what was written is the reply to the text that was left, if that is told
-module _ (words : List Text) (before after : Option Text) (s : Status) where
-  abbrev IsReplied : Option Text → Type 0
-  IsReplied left = IfSome left (λ text. Replied (IsReply AreBuiltWords words text []) before after s)
+module _ (serves : List Text → Command → Type 0) (words : List Text) (old new : List Watcher) (before after : Option Text) where
+  cause : (text : Text) (s : Status) → Replied (IsReply serves words text old new) before after s → Cause s text
+  cause text Syntax h = reply_cause text old new Syntax h.0 serves words h.1
+  cause text Limit h = reply_cause text old new Limit h.0 serves words h.1
+  cause text Yes h = tt
+  cause text No h = tt
+  cause text Stopped h = tt
+  cause text Usage h = tt
+  cause text ReadFault h = tt
+  cause text WriteFault h = tt
+  cause text Memory h = tt
 
-  told_cause : (left : Option Text) → IsReplied left → IfSome left (Cause s)
-  told_cause None h = tt
-  told_cause (Some text) h = cause words text before after s h
+  -- what was written is the reply to the text that was left, if that is told
+  module _ (s : Status) where
+    abbrev IsReplied : Option Text → Type 0
+    IsReplied left = IfSome left (λ text. Replied (IsReply serves words text old new) before after s)
 
-  pub syntax_by : (left : Option Text) → IsReplied left → s ≡ Syntax → IfSome left HasSyntaxFault
-  syntax_by left h e = subst (λ t. IfSome left (Cause t)) e (told_cause left h)
+    told_cause : (left : Option Text) → IsReplied left → IfSome left (Cause s)
+    told_cause None h = tt
+    told_cause (Some text) h = cause text s h
 
-  pub limit_by : (left : Option Text) → IsReplied left → s ≡ Limit → IfSome left PassesLimit
-  limit_by left h e = subst (λ t. IfSome left (Cause t)) e (told_cause left h)
+    pub syntax_by : (left : Option Text) → IsReplied left → s ≡ Syntax → IfSome left HasSyntaxFault
+    syntax_by left h e = subst (λ t. IfSome left (Cause t)) e (told_cause left h)
+
+    pub limit_by : (left : Option Text) → IsReplied left → s ≡ Limit → IfSome left PassesLimit
+    limit_by left h e = subst (λ t. IfSome left (Cause t)) e (told_cause left h)

@@ -1,10 +1,13 @@
 -- How a call of the program ends: what it wrote for a reply, and what it left in its source.
-use Rattle.std.specs.Prelude.{◌≡◌, ◌≢◌, ◌⊎◌, ◌++◌, Option}
+use Rattle.std.specs.Prelude.{◌≡◌, ◌≢◌, ◌⊎◌, ◌++◌, Bool, List, Option}
 use Rattle.pp_language.specs.declared.command.CommandKind.{CommandKind}
 use Rattle.pp_language.specs.declared.command.CommandKind.TheVariants.{Make}
+use Rattle.pp_language.specs.declared.command.Settings.{Settings}
 use Rattle.pp_language.specs.declared.status.Status.{Status}
 use Rattle.pp_language.specs.declared.status.Status.TheVariants.{Yes, No, Usage, Syntax, Stopped, Limit, ReadFault, WriteFault, Memory}
 use Rattle.pp_language.specs.Texts.{Text}
+use Rattle.pp_propagation.specs.Watchers.{Watcher}
+use Rattle.pp_propagation.specs.Replies.{IsReplyToText}
 use Rattle.pp_io.specs.Ends.{Took}
 
 -- where `reply` says which status and bytes are called for: a write fault took a prefix of such bytes, a read fault and want of memory
@@ -56,3 +59,14 @@ pub record IsOrdinary (s : Status) : Type 0 where
   pub reading : s ≢ ReadFault
   pub writing : s ≢ WriteFault
   pub memory : s ≢ Memory
+
+-- a status with which a call may end that made a run, or wanted memory for it
+pub record IsRunEnd (s : Status) : Type 0 where
+  pub words : s ≢ Usage
+  pub reading : s ≢ ReadFault
+  pub grammar : s ≢ Syntax
+  pub limits : s ≢ Limit
+
+-- the reply to a text that is not run, whatever the settings and the watchers are
+abbrev pub IsRefusal : Text → Status → Text → Type 0
+IsRefusal text s b = (settings : Settings) (trace : Bool) (ws : List Watcher) → IsReplyToText settings trace text ws ws s b

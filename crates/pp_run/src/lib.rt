@@ -2,10 +2,14 @@
 #![tactic(auto)]
 
 mod answer;
+mod begin;
 mod command;
+mod finish;
 mod lines;
 mod reply;
+mod run;
+mod summary;
 mod words;
 
-pub use command::alone;
+pub use command::{alone, propia};
 pub use pp_language::Status;

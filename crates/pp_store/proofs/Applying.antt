@@ -15,19 +15,12 @@ use Rattle.pp_row.specs.Columns.{trees_of, sets_of, pattern_by}
 use Rattle.pp_row.specs.Substitution.{term_at}
 use Rattle.pp_row.proofs.Numbering.{firsts-append}
 use Rattle.pp_store.proofs.Renumbered.{face_of}
+use Rattle.pp_row.proofs.ColumnLists.{put-trees_of, variables-push}
 
 pub column-is : (ts : List (Tree ℕ)) (v : ℕ) (d : Tree ℕ) → v < length ts → column (trees_of ts) v ≡ slice_index_or ts v d
 column-is [] v d h = absurd (omega (arith, h))
 column-is (t ∷ ts) zero d h = refl
 column-is (t ∷ ts) (suc v) d h = column-is ts v d (omega (arith, h))
-
-pub count-trees_of : (ts : List (Tree ℕ)) → count (trees_of ts) ≡ length ts
-count-trees_of [] = refl
-count-trees_of (t ∷ ts) = ap suc (count-trees_of ts)
-
-pub put-trees_of : (s : ℕ → Tree ℕ) (ts : List (Tree ℕ)) → put_all s (trees_of ts) ≡ trees_of (map (put s) ts)
-put-trees_of s [] = refl
-put-trees_of s (t ∷ ts) = ap (more (put s t)) (put-trees_of s ts)
 
 -- a variable of one of the terms is one of them all
 pub IsIn-terms : (ts : List (Tree ℕ)) (k : ℕ) (d : Tree ℕ) (v : ℕ) → k < length ts → IsIn v (variables (slice_index_or ts k d)) → IsIn v (variables_all (trees_of ts))
@@ -47,10 +40,6 @@ map_next f ts out new i t u h e o g n =
 -- a column for each variable of the term
 pub under_is : (columns : List (Tree ℕ)) (t : Tree ℕ) → ((v : ℕ) → IsIn v (variables t) → v < length columns) → put (term_at columns) t ≡ put (column (trees_of columns)) t
 under_is columns t h = put-agree (term_at columns) (column (trees_of columns)) t (λ v i. sym (column-is columns v (variable v) (h v i)))
-
-pub variables-push : (ts : List (Tree ℕ)) (t : Tree ℕ) → variables_all (trees_of (ts ++ t ∷ [])) ≡ variables_all (trees_of ts) ++ variables t
-variables-push [] t = append-nil (variables t)
-variables-push (u ∷ ts) t = ap (λ vs. variables u ++ vs) (variables-push ts t) ∙ sym (append_assoc (variables u) (variables_all (trees_of ts)) (variables t))
 
 -- the variables of one more term
 pub names_next : (ts : List (Tree ℕ)) (i : ℕ) (t : Tree ℕ) → i < length ts → t ≡ slice_index_or ts i t → firsts nat_eq [] (variables_all (trees_of (take (i + 1) ts))) ≡ firsts nat_eq (firsts nat_eq [] (variables_all (trees_of (take i ts)))) (variables t)

@@ -30,21 +30,10 @@ use Rattle.pp_term.specs.declared.query.Query.{Query}
 use Rattle.pp_store.proofs.ChangedFaces.{woken_is}
 use Rattle.pp_store.proofs.Lists.{has_in, in_has, not_in, place_below, get-place, in_get, get_map, column_is_at, found_at, at_found, each_put, each_wide}
 use Rattle.pp_store.proofs.Renumbered.{column_in, under_in, face_of, first_names, apply_of}
+use Rattle.pp_algebra.proofs.Numbered.{numbered_below}
 
 abbrev names_of : (ℕ → Tree ℕ) → Trees ℕ → List ℕ
 names_of s ts = firsts nat_eq [] (variables_all (put_all s ts))
-
-grows : (vs : List ℕ) (n m : ℕ) → IsNumbered n vs m → n ≤ m
-grows [] n m h = omega arith
-grows (x ∷ vs) n m (inl h) = grows vs n m h.1
-grows (x ∷ vs) n m (inr h) = let g = grows vs (suc n) m h.1 in omega arith
-
-pub numbered_below : (vs : List ℕ) (n m v : ℕ) → IsNumbered n vs m → IsIn v vs → v < m
-numbered_below [] n m v h i = absurd i
-numbered_below (x ∷ vs) n m v (inl h) (inl e) = let g = grows vs n m h.1 in omega arith
-numbered_below (x ∷ vs) n m v (inr h) (inl e) = let g = grows vs (suc n) m h.1 in omega arith
-numbered_below (x ∷ vs) n m v (inl h) (inr i) = numbered_below vs n m v h.1 i
-numbered_below (x ∷ vs) n m v (inr h) (inr i) = numbered_below vs (suc n) m v h.1 i
 
 -- the same columns have the same row where the domains of their variables are the same
 pub same_canon : (p : Domains ℕ) (q : Domains ℕ) (ts : Trees ℕ) → ((v : ℕ) → IsIn v (variables_all ts) → p v ≡ q v) → canon nat_eq (record { columns = ts; domains = p }) ≡ canon nat_eq (record { columns = ts; domains = q })

@@ -22,11 +22,11 @@ use Rattle.pp_store.specs.Numbers.{AreNumbers}
 use Rattle.pp_store.specs.Occurring.{AreGathered}
 use Rattle.pp_store.specs.Patterns.{column_at, row_in, names_at, under_numbers, IsSound, IsChange, IsMeant}
 use Rattle.pp_store.specs.Replacing.{replacement}
-use Rattle.pp_store.proofs.Applying.{put-trees_of}
 use Rattle.pp_store.proofs.Lists.{in_has, in_get, get_map, found_at, at_found}
-use Rattle.pp_store.proofs.Making.{numbered_below}
 use Rattle.pp_store.proofs.Noting.{firsts_distinct}
 use Rattle.pp_store.proofs.Renumbered.{column_in, under_in, first_names, names-canon, names_under}
+use Rattle.pp_row.proofs.ColumnLists.{put-trees_of}
+use Rattle.pp_algebra.proofs.Numbered.{numbered_below}
 
 variable-at : (ns : List ℕ) (w : ℕ) → w < length ns → term_at (map variable ns) w ≡ variable (get_or ns w 0)
 variable-at ns w l = get_map variable ns w 0 (variable w) l

@@ -23,6 +23,7 @@ use Rattle.pp_term.specs.declared.query.Item.TheVariants as entries
 use Rattle.pp_term.specs.declared.query.Query.{Query}
 use Rattle.pp_term.specs.WellFormed.{AreBelow, IsItem, IsQuery}
 use Rattle.pp_store.specs.Queries.{item_of, query_by}
+use Rattle.pp_algebra.proofs.Numbered.{count-from, from_numbered, column-from}
 
 -- ===== one after another
 
@@ -85,10 +86,6 @@ from-push : (first n : ℕ) → join (variables_from first n) (more (variable (f
 from-push first zero = ap (λ v. more (variable v) none) (omega arith)
 from-push first (suc n) = ap (more (variable first)) (ap (λ v. join (variables_from (suc first) n) (more (variable v) none)) (omega arith) ∙ from-push (suc first) n)
 
-pub count-from : (first n : ℕ) → count (variables_from first n) ≡ n
-count-from first zero = refl
-count-from first (suc n) = ap suc (count-from (suc first) n)
-
 -- so many variables, each of domain `any`
 abbrev pub any_domains : ℕ → List (Option Domain)
 any_domains zero = []
@@ -118,24 +115,15 @@ any-at (suc n) v = pushed (any_domains n) v (any-at n v)
     pushed (d ∷ ds) zero e = e
     pushed (d ∷ ds) (suc v) e = pushed ds v e
 
-from-numbered : (first n : ℕ) → IsNumbered first (variables_all (variables_from first n)) (first + n)
-from-numbered first zero = omega arith
-from-numbered first (suc n) = inr (refl, (let e : suc first + n ≡ first + suc n = omega arith in subst (IsNumbered (suc first) (variables_all (variables_from (suc first) n))) e (from-numbered (suc first) n)))
-
 any-wide : (n : ℕ) → All IsWide (any_domains n)
 any-wide zero = All-nil IsWide
 any-wide (suc n) = All-push IsWide (any_domains n) None (any-wide n) tt
 
 free_is_row : (n : ℕ) → IsRow (free_row n)
 free_is_row n = record {
-  canonical = subst (IsNumbered 0 (variables_all (variables_from 0 n))) (let e : 0 + n ≡ length (any_domains n) = omega (arith, any-length n) in e) (from-numbered 0 n);
+  canonical = from_numbered 0 n (length (any_domains n)) (omega (arith, any-length n));
   wide = any-wide n;
 }
-
-column-from : (first n v : ℕ) → v < n → column (variables_from first n) v ≡ variable (first + v)
-column-from first zero v l = absurd (omega (arith, l))
-column-from first (suc n) zero l = ap variable (omega arith)
-column-from first (suc n) (suc v) l = column-from (suc first) n v (omega (arith, l)) ∙ ap variable (omega arith)
 
 stays : (n : ℕ) (t : Tree ℕ) → IsOver (free_row n) t → put (value_in (free_row n)) t ≡ t
 stays n t o = put-agree (value_in (free_row n)) variable t (λ v i. column-from 0 n v (subst (λ m. v < m) (count-from 0 n) (o v i)) ∙ ap variable (omega arith)) ∙ put-variable t

@@ -15,9 +15,9 @@ use Rattle.pp_term.specs.declared.query.Query.{Query}
 use Rattle.pp_store.specs.declared.pattern.Pattern.{Pattern}
 use Rattle.pp_store.specs.Kept.{Kept, IsStoreOf}
 use Rattle.pp_store.specs.Patterns.{column_at, row_in, IsSound, IsAsBefore}
-use Rattle.pp_store.proofs.Applying.{count-trees_of}
 use Rattle.pp_store.proofs.Lists.{each_wide}
 use Rattle.pp_store.proofs.Making.{same_canon}
+use Rattle.pp_row.proofs.ColumnLists.{count-trees_of}
 
 pub row-count : (p : Pattern) → count (row_in p).columns ≡ length p.columns.items
 row-count p = count-put_all _ (trees_of p.columns.items) ∙ count-trees_of p.columns.items

@@ -8,11 +8,6 @@ use Rattle.pp_row.specs.Cells.{head_of}
 use Rattle.pp_algebra.specs.Solve.{Item}
 use Rattle.pp_unify.specs.Laws.{AreSolved, OneHasNone}
 
--- all items were solved, or one of them has no solution
-abbrev pub AreDecided : Row → List (Item ℕ) → Bool → Row → Type 0
-AreDecided r items true q = AreSolved r items q
-AreDecided r items false q = OneHasNone r items
-
 abbrev pub top_of : Tree ℕ → Cell
 top_of (int n) = Int n
 top_of (node f ts) = head_of f (count ts)

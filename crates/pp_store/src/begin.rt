@@ -8,7 +8,8 @@ ghost use Rattle.pp_row.specs.Cells.{IsLegalCell};
 ghost use Rattle.pp_term.specs.Meanings.{members_by};
 ghost use Rattle.pp_term.specs.WellFormed.{IsItem};
 ghost use Rattle.pp_unify.specs.States.{present, in_place, IsOver, IsSolvedBy};
-ghost use Rattle.pp_store.specs.Deciding.{AreDecided, top_of};
+ghost use Rattle.pp_unify.specs.Forests.{AreDecided};
+ghost use Rattle.pp_store.specs.Deciding.{top_of};
 ghost use Rattle.pp_store.specs.Queries.{item_of};
 
 use pp_domain::Domain;

@@ -63,6 +63,15 @@ impl Store {
         self.pattern.row()
     }
 
+    /// A copy. It costs all of it.
+    pub fn copy(&self) -> Result<Store, AllocError>
+        ensures { IfOk result (λ copy. copy ≡ self.now) }
+    {
+        Ok(Store {
+            pattern: Pattern::new(self.pattern.alloc, &self.pattern.row()?)?,
+        })
+    }
+
     /// The face of the goal of this number. It costs the face.
     pub fn face(&self, goals: &GoalIndex, goal: u32) -> Result<Row, AllocError>
         requires of_query { IsStoreOf goals.now self.now }

@@ -1,16 +1,10 @@
 -- The row with one variable more, which is bound.
-use Rattle.std.proofs.Common.{◌≡◌, ℕ, ℤ, suc, ◌+◌, ◌<◌, List, [], ◌∷◌, ◌++◌, true, length, map, Option, Some, None, refl, ap, sym, ◌∙◌, subst, inl, inr, arith, append-nil, length-append}
-use Rattle.std.proofs.Common.{zero}
-use Rattle.std.specs.Prelude.{nat_eq, slice_set, ◌↔◌}
-use Rattle.pp_algebra.specs.Covers.{MayGo}
+use Rattle.std.proofs.Common.{◌≡◌, ℕ, suc, ◌+◌, ◌<◌, ◌≤◌, ◌^◌, List, [], ◌∷◌, ◌++◌, true, length, map, Option, Some, None, refl, ap, sym, ◌∙◌, subst, inl, inr, arith, append-nil, length-append}
+use Rattle.std.specs.Prelude.{nat_eq}
 use Rattle.pp_algebra.specs.Solve.{equation}
-use Rattle.pp_heap.specs.Values.{term_at}
-use Rattle.pp_heap.specs.Soundness.{IsPlace}
-use Rattle.pp_heap.specs.Agreement.{Says, Follows}
-use Rattle.pp_heap.proofs.Assigning.{assigned, any_allows}
-use Rattle.pp_unify.proofs.Equations.{AgreeAlike, verdict_same}
+use Rattle.pp_heap.specs.Agreement.{Says, Agrees, Follows}
 use Rattle.std.proofs.lemmas.List.{get_or_append_left}
-use Rattle.std.proofs.Math.Seq.{get_or-append_seam, set-append_seam}
+use Rattle.std.proofs.Math.Seq.{get_or-append_seam, take-append_seam}
 use Rattle.pp_algebra.specs.Terms.{Tree, variable, Trees, none, more, put, put_all, variables, variables_all, join}
 use Rattle.pp_algebra.specs.Rows.{Domains}
 use Rattle.pp_algebra.specs.Covers.{IsIn}
@@ -23,20 +17,22 @@ use Rattle.pp_heap.specs.declared.state.Slot.TheVariants as slots
 use Rattle.pp_heap.specs.declared.state.Slot.{Slot}
 use Rattle.pp_heap.specs.declared.state.Value.{Value}
 use Rattle.pp_heap.specs.declared.state.Value.TheVariants.{Variable, Int, Atom, Compound}
-use Rattle.pp_heap.specs.declared.state.Entry.TheVariants.{Bound}
+use Rattle.pp_heap.specs.declared.state.Entry.TheVariants.{Defined}
 use Rattle.pp_heap.specs.declared.state.State.{State}
-use Rattle.pp_heap.specs.Values.{slot_at, slot_of, value_term, domain_by, slot_domain}
-use Rattle.pp_heap.specs.Stores.{Store, store_of, entries_of, solution, made, single}
-use Rattle.pp_heap.specs.Soundness.{IsLinked, IsTarget, IsGood}
-use Rattle.pp_heap.specs.Outcomes.{IsFree, IsChange, IsNow, IsValue, IsLater, IsAdded, IsAddedAs}
+use Rattle.pp_heap.specs.Values.{slot_at, slot_of, slot_term, value_term, slot_domain}
+use Rattle.pp_heap.specs.Stores.{Store, store_of, entries_of, before, solution, made, single}
+use Rattle.pp_heap.specs.Soundness.{IsLinked, IsTarget, IsStep, IsGood, IsKept}
+use Rattle.pp_heap.specs.Outcomes.{IsChange, IsNow, IsValue, IsAddedAs}
 use Rattle.pp_unify.specs.States.{in_place, value_in, with_value}
 use Rattle.pp_unify.specs.Tops.{IsAmong}
 use Rattle.pp_heap.proofs.Made.{single_same, untouched}
 use Rattle.pp_heap.proofs.Solutions.{own_domains, solution_free, solution_agrees}
 use Rattle.pp_unify.proofs.Heaps.{variable_cell}
 use Rattle.pp_unify.proofs.Among.{IsBelow, comes_from, put_below, variable_below, made_among}
-use Rattle.pp_heap.proofs.Binding.{IsBinding, binding_later, binding_solution}
-use Rattle.pp_heap.proofs.Setting.{slot_set}
+use Rattle.pp_heap.proofs.Slots.{never_free, one_value, slot_term-slot_of, bound_says, agrees_bound}
+use Rattle.pp_heap.proofs.Changes.{same_or_not, below_or, at_past}
+use Rattle.pp_heap.proofs.Growing.{with_slots}
+use Rattle.pp_heap.proofs.Keeping.{good_change, kept_change, solution_change}
 use Rattle.pp_unify.proofs.Adding.{firsts-from, map-agree, from-push, values_below, more_slot}
 use Rattle.pp_unify.proofs.Present.{number, value_now, has_name}
 use Rattle.pp_unify.proofs.Verdicts.{row_of}
@@ -60,86 +56,105 @@ new_target st (Int k) n = n
 new_target st (Atom a) n = n
 new_target st (Compound p) n = n
 
-no_place : (ds : List (List (ℤ × ℤ))) (k : Option ℕ) → domain_by ds k ≡ None → k ≡ None
-no_place ds None e = refl
-no_place ds (Some d) e = absurd (cc)
+pub few_defined : (old new : State) (c : Value) (n : ℕ) → n ≡ length old.slots.items → n < 2 ^ 32 → IsChange old new (Defined (length old.slots.items)) (with_slots (store_of old) (slot_of c ∷ [])) → length new.slots.items ≤ 2 ^ 32
+few_defined old new c n e l h = omega (arith, e, l, ap (λ (z : Store). length z.slots) h.store, length-append old.slots.items (slot_of c ∷ []))
 
--- a free variable was added
-pub added_free : (old mid : State) → IsAdded old mid None → IsFree (store_of mid) (length old.slots.items) None
-added_free old mid a = record {
-  within = omega (arith, ap length a.slots, length-append old.slots.items (slots.Free a.place ∷ []));
-  free = ap (λ ss. slot_at ss (length old.slots.items)) a.slots ∙ get_or-append_seam old.slots.items (slots.Free a.place) [] (slots.Free None) ∙ ap slots.Free (no_place mid.domains.items a.place a.domain);
-}
-
-pub added_binding : (old mid new : State) (x : ℕ) (c : Value) → x ≡ length old.slots.items → IsGood mid → IsAdded old mid None → IsChange mid new (Bound x None) (slot_set (store_of mid) x (slot_of c)) → IsBinding mid new (length old.slots.items) None c
-added_binding old mid new x c e g a h = subst (λ y. IsBinding mid new y None c) e (record { good = g; free = subst (λ y. IsFree (store_of mid) y None) (sym e) (added_free old mid a); change = h })
-
-free_more : (ss : List Slot) (v : ℕ) → slot_at (ss ++ slots.Free None ∷ []) v ≡ slot_at ss v
-free_more [] zero = refl
-free_more [] (suc v) = refl
-free_more (x ∷ ss) zero = refl
-free_more (x ∷ ss) (suc v) = free_more ss v
-
--- and then bound
-module _ (old mid new : State) (c : Value) (g : IsGood old) (n : IsNow (store_of old) c) (a : IsAdded old mid None) (b : IsBinding mid new (length old.slots.items) None c) where
+-- a variable was added, bound
+module _ (old new : State) (c : Value) (g : IsGood old) (n : IsNow (store_of old) c) (h : IsChange old new (Defined (length old.slots.items)) (with_slots (store_of old) (slot_of c ∷ []))) where
   abbrev last : ℕ
   last = length old.slots.items
 
-  value_same : put (solution mid) (value_term mid.heap.items c) ≡ put (solution old) (value_term old.heap.items c)
-  value_same = ap (λ cs. put (solution mid) (value_term cs c)) a.heap ∙ put-agree (solution mid) (solution old) (value_term old.heap.items c) (λ v i. a.same v)
+  abbrev wider : Store
+  wider = with_slots (store_of old) (slot_of c ∷ [])
 
-  below : IsBelow last (put (solution old) (value_term old.heap.items c))
-  below = solved_below old (value_term old.heap.items c) g (value_below (store_of old) c g.linked n)
+  abbrev term : Tree ℕ
+  term = value_term old.heap.items c
+
+  back : before (Defined last) wider ≡ store_of old
+  back = ap (λ x. let r : Store = record { heap = old.heap.items; domains = old.domains.items; slots = x } in r) (take-append_seam old.slots.items (slot_of c ∷ []))
+
+  at_last : slot_at wider.slots last ≡ slot_of c
+  at_last = get_or-append_seam old.slots.items (slot_of c) [] (slots.Free None)
+
+  at_others : (v : ℕ) → (v ≡ last → ⊥) → slot_at wider.slots v ≡ slot_at old.slots.items v
+  at_others v d = elim (below_or v last) [
+    | inl l ↦ get_or_append_left old.slots.items (slot_of c ∷ []) (slots.Free None) v l
+    | inr l ↦ at_past wider.slots v (let e = length-append old.slots.items (slot_of c ∷ []) in omega (arith, l, e, other_last v d l)) ∙ sym (at_past old.slots.items v l)
+  ]
+    where
+      other_last : (v : ℕ) → (v ≡ last → ⊥) → last ≤ v → suc last ≤ v
+      other_last v d l = elim (below_or last v) [ inl k ↦ k | inr k ↦ absurd (d (omega (arith, l, k))) ]
+
+  below : IsBelow last (put (solution old) term)
+  below = solved_below old term g (value_below (store_of old) c g.linked n)
 
   not_below : (t : Tree ℕ) → IsBelow last t → IsIn last (variables t) → ⊥
-  not_below t h i = let l = h last i in absurd (omega (arith, l))
+  not_below t k i = let l = k last i in absurd (omega (arith, l))
 
-  pub bound_later : IsLater mid new
-  bound_later = binding_later mid new last None c b (subst (λ cs. IsTarget cs last c) (sym a.heap) (new_target (store_of old) c n)) (λ i. not_below (put (solution old) (value_term old.heap.items c)) below (subst (λ t. IsIn last (variables t)) value_same i))
-
-  stays : (v : ℕ) → v < last → solution new v ≡ solution old v
-  stays v l =
-      let u = put (solution mid) (value_term mid.heap.items c) in
-      binding_solution mid new last None c b v ∙ ap (put (single last u)) (a.same v) ∙ untouched last u (solution old v) (not_below (solution old v) (solved_below old (variable v) g (variable_below last v l)))
-
-  becomes : solution new last ≡ put (solution old) (value_term old.heap.items c)
-  becomes =
-      let u = put (solution mid) (value_term mid.heap.items c) in
-      binding_solution mid new last None c b last ∙ ap (put (single last u)) (solution_free mid last None b.good b.free.free) ∙ single_same last u ∙ value_same
-
-  pub added_as : IsAddedAs old new c
-  added_as = record {
-    slots = ap (λ (z : Store). z.slots) b.change.store ∙ ap (λ ss. slice_set ss last (slot_of c)) a.slots ∙ set-append_seam old.slots.items (slots.Free a.place) [] (slot_of c);
-    domains = (a.domains.0, ap (λ (z : Store). z.domains) b.change.store ∙ a.domains.1);
-    same = stays;
-    last = becomes;
+  linked : IsLinked wider
+  linked = record {
+    forest = g.linked.forest;
+    variables = λ p v e. let l = g.linked.variables p v e in omega (arith, l, length-append old.slots.items (slot_of c ∷ []));
+    bound = λ v b e. elim (same_or_not v last) [
+      | inl i ↦ (
+          let k : c ≡ b = one_value c b (sym at_last ∙ ap (slot_at wider.slots) (sym i) ∙ e) in
+          subst (λ z. IsTarget old.heap.items v z) k (subst (λ z. IsTarget old.heap.items z c) (sym i) (new_target (store_of old) c n)))
+      | inr i ↦ g.linked.bound v b (sym (at_others v i) ∙ e)
+    ];
+    free = λ v d e. elim (same_or_not v last) [
+      | inl i ↦ absurd (never_free c d (sym at_last ∙ ap (slot_at wider.slots) (sym i) ∙ e))
+      | inr i ↦ g.linked.free v d (sym (at_others v i) ∙ e)
+    ];
+    wide = g.linked.wide;
   }
 
-  says_added : (ds : Domains ℕ) (s : ℕ → Tree ℕ) (v : ℕ) (k : Slot) → slot_at old.slots.items v ≡ k → Says (store_of old) ds s v k ↔ Says (store_of mid) ds s v k
-  says_added ds s v (slots.Free d) e =
-      let m : domain_by mid.domains.items d ≡ domain_by old.domains.items d = ap (λ es. domain_by es d) a.domains.1 ∙ more_slot old.domains.items a.domains.0 (slots.Free d) (λ x f. subst (IsPlace old.domains.items) (cc) (g.linked.free v d e)) in
-      ((λ x. subst (λ z. MayGo ds z (s v)) (sym m) x), λ x. subst (λ z. MayGo ds z (s v)) m x)
-  says_added ds s v (slots.Alias w) e = ((λ x. x), λ x. x)
-  says_added ds s v (slots.Int n) e = ((λ x. x), λ x. x)
-  says_added ds s v (slots.Atom n) e = ((λ x. x), λ x. x)
-  says_added ds s v (slots.Compound p) e = let t = ap (λ cs. put s (term_at cs p)) a.heap in ((λ x. x ∙ sym t), λ x. x ∙ t)
-
-  slot_stays : (v : ℕ) → slot_at mid.slots.items v ≡ slot_at old.slots.items v
-  slot_stays v = ap (λ ss. slot_at ss v) a.slots ∙ ap (λ d. slot_at (old.slots.items ++ slots.Free d ∷ []) v) (no_place mid.domains.items a.place a.domain) ∙ free_more old.slots.items v
-
-  -- a free variable more says nothing
-  alike_added : AgreeAlike old mid
-  alike_added ds s = (
-    (λ x v. subst (Says (store_of mid) ds s v) (sym (slot_stays v)) ((says_added ds s v (slot_at old.slots.items v) refl).0 (x v))),
-    λ x v. (says_added ds s v (slot_at old.slots.items v) refl).1 (subst (Says (store_of mid) ds s v) (slot_stays v) (x v)),
+  step : IsStep (Defined last) (entries_of old) wider
+  unfolding solution
+  step = (
+    c,
+    at_last,
+    (λ i. not_below (put (solution old) term) below (subst (λ (z : Store). IsIn last (variables (put (made (entries_of old) z) term))) back i)),
+    length-append old.slots.items (slot_of c ∷ []) ∙ omega arith,
   )
 
-  -- and then it is that value, with no occurs check
-  pub added_follows : Follows old new (equation (variable last) (value_term old.heap.items c))
-  added_follows =
-      let not_in : IsIn last (variables (put (solution mid) (value_term mid.heap.items c))) → ⊥ = λ i. not_below (put (solution old) (value_term old.heap.items c)) below (subst (λ t. IsIn last (variables t)) value_same i) in
-      let f = (assigned mid new last None c b (any_allows mid last None c refl not_in)).follows in
-      verdict_same old mid new (variable last) (value_term old.heap.items c) (variable last) (value_term mid.heap.items c) true alike_added (λ ds s x. refl) (λ ds s x. ap (λ cs. put s (value_term cs c)) (sym a.heap)) f
+  pub defined_good : length new.slots.items ≤ 2 ^ 32 → IsGood new
+  defined_good few = good_change old new (Defined last) wider g h back step linked g.small (subst (λ (z : Store). length z.slots ≤ 2 ^ 32) h.store few)
+
+  pub defined_kept : IsKept old new
+  defined_kept = kept_change old new (Defined last) wider h back
+
+  changes : (v : ℕ) → solution new v ≡ put (single last (put (solution old) term)) (solution old v)
+  changes v =
+      solution_change old new (Defined last) wider h back v
+      ∙ ap (λ k. put (single last (put (solution old) (slot_term old.heap.items k last))) (solution old v)) at_last
+      ∙ ap (λ t. put (single last (put (solution old) t)) (solution old v)) (slot_term-slot_of old.heap.items c last)
+
+  pub defined_as : IsAddedAs old new c
+  defined_as = record {
+    slots = ap (λ (z : Store). z.slots) h.store;
+    domains = ([], ap (λ (z : Store). z.domains) h.store ∙ sym (append-nil old.domains.items));
+    same = λ v l. changes v ∙ untouched last (put (solution old) term) (solution old v) (not_below (solution old v) (solved_below old (variable v) g (variable_below last v l)));
+    last = changes last ∙ ap (put (single last (put (solution old) term))) (solution_free old last None g (at_past old.slots.items last (omega arith))) ∙ single_same last (put (solution old) term);
+  }
+
+  says_old : (ds : Domains ℕ) (s : ℕ → Tree ℕ) (v : ℕ) → Agrees wider ds s → Says (store_of old) ds s v (slot_at old.slots.items v)
+  says_old ds s v a = elim (same_or_not v last) [
+    | inl i ↦ subst (Says (store_of old) ds s v) (sym (at_past old.slots.items v (omega (arith, i)))) tt
+    | inr i ↦ subst (Says (store_of old) ds s v) (at_others v i) (a v)
+  ]
+
+  says_new : (ds : Domains ℕ) (s : ℕ → Tree ℕ) (v : ℕ) → Agrees (store_of old) ds s → s last ≡ put s term → Says (store_of old) ds s v (slot_at wider.slots v)
+  says_new ds s v a e = elim (same_or_not v last) [
+    | inl i ↦ subst (λ w. Says (store_of old) ds s w (slot_at wider.slots w)) (sym i) (subst (Says (store_of old) ds s last) (sym at_last) (bound_says (store_of old) ds s last c e))
+    | inr i ↦ subst (Says (store_of old) ds s v) (sym (at_others v i)) (a v)
+  ]
+
+  -- with no occurs check
+  pub defined_follows : Follows old new (equation (variable last) term)
+  defined_follows ds s w = (
+    (λ a. let b : Agrees wider ds s = subst (λ (z : Store). Agrees z ds s) h.store a in ((λ v. says_old ds s v b), agrees_bound wider ds s last c b at_last)),
+    λ q. subst (λ (z : Store). Agrees z ds s) (sym h.store) (λ v. says_new ds s v q.0 q.1),
+  )
 
 firsts_old : (seen vs : List ℕ) → ((w : ℕ) → IsIn w vs → has nat_eq seen w ≡ true) → firsts nat_eq seen vs ≡ seen
 firsts_old seen [] h = refl

@@ -1,5 +1,5 @@
 -- The variables of what a variable is: each has a slot.
-use Rattle.std.proofs.Common.{◌≡◌, ℕ, ◌<◌, List, [], ◌∷◌, length, refl, ap, sym, subst, inl, inr, arith}
+use Rattle.std.proofs.Common.{◌≡◌, ℕ, ◌<◌, List, [], ◌∷◌, length, None, refl, ap, sym, subst, inl, inr, arith}
 use Rattle.std.proofs.lemmas.List.{length-take-le, length-set}
 use Rattle.pp_algebra.specs.Terms.{Tree, int, node, variable, Trees, none, more, put, put_all, variables, variables_all}
 use Rattle.pp_algebra.specs.Covers.{IsIn}
@@ -9,13 +9,13 @@ use Rattle.pp_heap.specs.declared.state.Slot.{Slot}
 use Rattle.pp_heap.specs.declared.state.Slot.TheVariants.{Free, Alias, Int, Atom, Compound}
 use Rattle.pp_heap.specs.declared.state.Value.TheVariants as values
 use Rattle.pp_heap.specs.declared.state.Entry.{Entry}
-use Rattle.pp_heap.specs.declared.state.Entry.TheVariants.{Grown, Held, Bound, Narrowed, Added}
+use Rattle.pp_heap.specs.declared.state.Entry.TheVariants.{Grown, Held, Bound, Narrowed, Added, Defined}
 use Rattle.pp_heap.specs.Values.{slot_at, slot_term}
 use Rattle.pp_heap.specs.Stores.{Store, before, single, made}
 use Rattle.pp_heap.specs.Soundness.{IsLinked, IsSound}
 use Rattle.pp_unify.specs.Tops.{IsAmong}
 use Rattle.pp_unify.proofs.Heaps.{variable_cell}
-use Rattle.pp_heap.proofs.Changes.{same_or_not, below_or, bound_within}
+use Rattle.pp_heap.proofs.Changes.{same_or_not, below_or, bound_within, past_take}
 use Rattle.pp_heap.proofs.Made.{single_same, single_other, made_free}
 
 mutual
@@ -87,3 +87,13 @@ made_among (Added n ∷ es) st k l v h =
       | inl i ↦ put_below m variable (made es b v) (λ w j. variable_below m w (let r = made_among es b k.2 k.1 v (omega (arith, same, i)) w j in omega (arith, same, r, k.0.0)))
       | inr i ↦ subst (IsBelow m) (sym (made_free (Added n ∷ es) st v (k.0.1 v i).0 k (k.0.1 v i).1)) (variable_below m v h)
     ]
+made_among (Defined n ∷ es) st k l v h =
+    let b = before (Defined n) st in
+    let m = length st.slots in
+    let same : length b.slots ≡ n = length-take-le n st.slots (omega (arith, k.0.3)) in
+    let each : (w : ℕ) → w < m → IsBelow m (made es b w) = λ w i. elim (below_or w n) [
+      | inl j ↦ (λ u q. let r = made_among es b k.2 k.1 w (omega (arith, same, j)) u q in omega (arith, same, r, k.0.3))
+      | inr j ↦ subst (IsBelow m) (sym (made_free es b w None k.2 (past_take st.slots n w j))) (variable_below m w i)
+    ] in
+    let t : IsBelow m (put (made es b) (bound_to st n)) = put_below m (made es b) (bound_to st n) (λ w i. each w (bound_among st n l (bound_within st.slots n k.0.0 k.0.1) w i)) in
+    put_below m (single n (put (made es b) (bound_to st n))) (made es b v) (λ w i. single_below m n (put (made es b) (bound_to st n)) w t (each v h w i))

@@ -123,21 +123,6 @@ apart_turned old t bs n head at f m x after ds s w a e =
     let q = more_equal (put s t) (put (counted n s) (term_at head at)) (put_all s (join bs after)) (put_all (counted n s) (rest (from head at))) in
     x ds s w a ((q.0 (e ∙ z)).1 ∙ sym (counted_put s n (term_at head at)))
 
--- a term is this other one at the moment
-pub equal_turned : (old new : State) (t u : Tree ℕ) (bs : Trees ℕ) (now : List Span) (n : ℕ) (head : List Cell) (at : ℕ) (r : Option ℕ) → ((ds : Domains ℕ) (s : ℕ → Tree ℕ) → Agrees (store_of old) ds s → put s t ≡ put s u) → HasTurned old new (more u bs) now n head at r → HasTurned old new (more t bs) now n head at r
-equal_turned old new t u bs now n head at None e h = λ after ds s w a q. h after ds s w a (ap (λ x. more x (put_all s (join bs after))) (sym (e ds s a)) ∙ q)
-equal_turned old new t u bs now n head at (Some to) e h = record {
-  later = h.later;
-  wider = h.wider;
-  all = h.all;
-  counts = h.counts;
-  same = λ after ds s w.
-      let k = h.same after ds s w in (
-        (λ q. let b = k.0 q in (b.0, ap (λ x. more x (put_all s (join bs after))) (e ds s b.0) ∙ b.1)),
-        λ q. k.1 (q.0, ap (λ x. more x (put_all s (join bs after))) (sym (e ds s q.0)) ∙ q.1),
-      );
-}
-
 join_equal : (s r : ℕ → Tree ℕ) (a c b d : Trees ℕ) → count a ≡ count b → (put_all s (join a c) ≡ put_all r (join b d)) ↔ ((put_all s a ≡ put_all r b) × (put_all s c ≡ put_all r d))
 join_equal s r none c none d e = ((λ q. (refl, q)), λ q. q.1)
 join_equal s r none c (more u b) d e = absurd (cc)

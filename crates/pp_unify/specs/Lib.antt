@@ -8,3 +8,4 @@ pub mod Counting
 pub mod Heads
 pub mod Forests
 pub mod Joining
+pub mod Taking

@@ -207,39 +207,10 @@ pub(crate) fn meet_head(
 }
 
 /// Whether compounds of one name and number of arguments begin at a place of the heap and at one of the head.
-fn is_alike(state: &State, place: u32, cells: &[Cell], at: usize) -> bool
+pub(crate) fn is_alike(state: &State, place: u32, cells: &[Cell], at: usize) -> bool
     requires place { place < length state.now.heap.items }
     requires at { at < length cells.now }
     ensures { IsTrue result → (cell_at state.now.heap.items place ≡ cell_at cells.now at) × IsCompound (cell_at state.now.heap.items place) }
 {
     state.is_compound(place) && is_same(state.heap[place as usize], cells[at])
-}
-
-/// Makes the first term of a span and the head's next term equal, but for what the work has more; answers where
-/// the head goes on.
-pub(crate) fn turn(
-    state: &mut State,
-    scratch: &mut Scratch,
-    work: &mut Vec<Span>,
-    span: Span,
-    cells: &[Cell],
-    at: usize,
-    first: u32,
-) -> Result<Option<usize>, AllocError>
-    requires good { IsGood state.old }
-    requires span { IsSpan state.old.heap.items span }
-    requires head { IsForest cells.now }
-    requires fits { AreBelow (2 ^ 32) first cells.now }
-    requires within { at < length cells.now }
-    requires all { All (IsSpan state.old.heap.items) work.old.items }
-    ensures onward { IsOnward state.old state.new }
-    ensures turned { IfOk result (HasTurned state.old state.new (more (term_at state.old.heap.items span.at) (join (rest (span_terms state.old.heap.items span)) (terms_of state.old.heap.items work.old.items))) work.new.items first cells.now at) }
-{
-    if is_alike(state, span.at, cells, at) {
-        state.push_inside(work, span)?;
-        return Ok(Some(at + 1));
-    }
-    state.push_rest(work, span)?;
-    let value = state.look(span.at);
-    meet_head(state, scratch, work, value, cells, at, first)
 }

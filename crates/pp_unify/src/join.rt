@@ -1,22 +1,36 @@
 //! Two lists of terms that are made equal, a goal's and a clause's head, walked in step where they stand.
-ghost use Rattle.std.specs.Prelude.{◌≡◌, ◌+◌, ◌<◌, ◌^◌, ◌↔◌, [], length, IfOk, IsTrue};
-ghost use Rattle.pp_algebra.specs.Terms.{count, none, more};
+ghost use Rattle.std.specs.Prelude.{◌≡◌, ℕ, ◌+◌, ◌<◌, ◌^◌, ◌↔◌, [], List, length, IfOk, IsTrue, All};
+ghost use Rattle.pp_algebra.specs.Terms.{count, more, join};
+ghost use Rattle.pp_algebra.specs.Least.{rest};
 ghost use Rattle.pp_algebra.specs.Numbered.{counted_from};
-ghost use Rattle.pp_row.specs.Reading.{IsForest, forest};
+ghost use Rattle.pp_row.specs.declared.cell.Cell.{Cell as CellValue};
+ghost use Rattle.pp_row.specs.Reading.{IsForest, forest, from};
 ghost use Rattle.pp_heap.specs.Values.{cell_at, term_at};
 ghost use Rattle.pp_heap.specs.Stores.{store_of};
-ghost use Rattle.pp_heap.specs.Soundness.{IsGood};
+ghost use Rattle.pp_heap.specs.Soundness.{IsGood, IsCompound};
 ghost use Rattle.pp_heap.specs.Outcomes.{IsGrown, IsValue};
-ghost use Rattle.pp_unify.specs.Heads.{IsHead, IsPiece, IsVariable, HasTurned};
+ghost use Rattle.pp_heap.specs.Spans.{IsSpan, span_terms, terms_of};
+ghost use Rattle.pp_unify.specs.Forests.{counted_all};
+ghost use Rattle.pp_unify.specs.Heads.{IsHead, IsPiece, IsVariable};
 ghost use Rattle.pp_unify.specs.Joining.{IsOnward, AreBelow, AreJoined, IsEntered};
+ghost use Rattle.pp_unify.specs.Taking.{left_of, HasTaken};
 
-use crate::head::{add_up_to, meet_head, turn};
+use crate::head::{add_up_to, is_alike, meet_head};
 use crate::pair::Scratch;
 use crate::terms::leaf;
 use crate::unify::is_same;
 use pp_heap::{Span, State, Value};
 use pp_row::{Cell, end_of};
 use std::alloc::AllocError;
+
+/// What becomes of the next term of a goal that is met with the head's next one: they can't be equal, their first
+/// cells are equal and the goal goes on at a place, or it is this value and the goal goes on at a place.
+#[derive(Clone, Copy, Debug, PartialEq, Eq)]
+pub(crate) enum Taken {
+    Apart,
+    Alike(usize),
+    Value(Value, usize),
+}
 
 fn is_variable(cell: Cell) -> bool
     ensures { IsTrue result ↔ IsVariable cell }
@@ -53,8 +67,8 @@ fn next_cell(cells: &[Cell], at: usize) -> usize
     at + 1
 }
 
-/// What a term of the goal is. A compound is put to the heap.
-fn goal_value(
+/// Puts a compound of the goal to the heap.
+fn goal_compound(
     state: &mut State,
     cells: &[Cell],
     at: usize,
@@ -64,43 +78,96 @@ fn goal_value(
     requires good { IsGood state.old }
     requires goal { IsHead state.old.slots.items first cells.now }
     requires within { at < length cells.now }
+    requires compound { IsCompound (cell_at cells.now at) }
     requires piece { IsPiece cells.now at end }
     ensures grown { IsGrown state.old state.new }
     ensures value { IfOk result (IsValue (store_of state.new) (counted_from first (term_at cells.now at))) }
 {
-    match leaf(state, cells, at, first) {
-        Some(value) => Ok(value),
-        None => Ok(Value::Compound(state.grow(&cells[at..end], first)?)),
-    }
+    Ok(Value::Compound(state.grow(&cells[at..end], first)?))
 }
 
-/// Makes a term of the goal and the head's next term equal, but for what the work has more; answers where the
-/// head goes on.
-fn meet_goal(
+/// Takes the goal's next term from where it stands.
+fn take_goal(
     state: &mut State,
-    scratch: &mut Scratch,
-    work: &mut Vec<Span>,
     goal: &[Cell],
     at: usize,
-    end: usize,
     first: u32,
     head: &[Cell],
     next: usize,
-    base: u32,
-) -> Result<Option<usize>, AllocError>
+) -> Result<Taken, AllocError>
     requires good { IsGood state.old }
     requires goal { IsHead state.old.slots.items first goal.now }
     requires within { at < length goal.now }
-    requires piece { IsPiece goal.now at end }
-    requires empty { work.old.items ≡ [] }
     requires head { IsForest head.now }
-    requires fits { AreBelow (2 ^ 32) base head.now }
     requires head_within { next < length head.now }
-    ensures onward { IsOnward state.old state.new }
-    ensures turned { IfOk result (HasTurned state.old state.new (more (counted_from first (term_at goal.now at)) none) work.new.items base head.now next) }
+    ensures grown { IsGrown state.old state.new }
+    ensures taken { IfOk result (HasTaken (counted_all first (from goal.now at)) state.new [] first goal.now head.now next) }
 {
-    let value = goal_value(state, goal, at, end, first)?;
-    meet_head(state, scratch, work, value, head, next, base)
+    if are_alike(goal, at, head, next) {
+        return Ok(Taken::Alike(next_cell(goal, at)));
+    }
+    if are_apart(goal, at, head, next) {
+        return Ok(Taken::Apart);
+    }
+    match leaf(state, goal, at, first) {
+        Some(value) => Ok(Taken::Value(value, next_cell(goal, at))),
+        None => {
+            let end = end_of(goal, at);
+            let value = goal_compound(state, goal, at, end, first)?;
+            Ok(Taken::Value(value, end))
+        }
+    }
+}
+
+/// Takes the first term of a span, which was taken from the work; the goal's own terms go on at `at`.
+fn take_span(
+    state: &State,
+    work: &mut Vec<Span>,
+    span: Span,
+    at: usize,
+    head: &[Cell],
+    next: usize,
+) -> Result<Taken, AllocError>
+    requires good { IsGood state.now }
+    requires span { IsSpan state.now.heap.items span }
+    requires all { All (IsSpan state.now.heap.items) work.old.items }
+    requires head { IsForest head.now }
+    requires within { next < length head.now }
+    ensures all { IfOk result (λ _. All (IsSpan state.now.heap.items) work.new.items) }
+    ensures taken { IfOk result (λ t. (n : ℕ) (goal : List CellValue) → HasTaken (join (more (term_at state.now.heap.items span.at) (join (rest (span_terms state.now.heap.items span)) (terms_of state.now.heap.items work.old.items))) (counted_all n (from goal at))) state.now work.new.items n goal head.now next t) }
+{
+    if is_alike(state, span.at, head, next) {
+        state.push_inside(work, span)?;
+        return Ok(Taken::Alike(at));
+    }
+    state.push_rest(work, span)?;
+    Ok(Taken::Value(state.look(span.at), at))
+}
+
+/// Takes the next term of what is left of a goal: the work, and then its own terms from `at` on.
+fn take_next(
+    state: &mut State,
+    work: &mut Vec<Span>,
+    goal: &[Cell],
+    at: usize,
+    first: u32,
+    head: &[Cell],
+    next: usize,
+) -> Result<Taken, AllocError>
+    requires good { IsGood state.old }
+    requires goal { IsHead state.old.slots.items first goal.now }
+    requires all { All (IsSpan state.old.heap.items) work.old.items }
+    requires head { IsForest head.now }
+    requires within { next < length head.now }
+    requires counts { count (left_of state.old work.old.items first goal.now at) ≡ count (from head.now next) }
+    ensures grown { IsGrown state.old state.new }
+    ensures all { IfOk result (λ _. All (IsSpan state.new.heap.items) work.new.items) }
+    ensures taken { IfOk result (HasTaken (left_of state.old work.old.items first goal.now at) state.new work.new.items first goal.now head.now next) }
+{
+    match work.pop() {
+        Some(span) => take_span(state, work, span, at, head, next),
+        None => take_goal(state, goal, at, first, head, next),
+    }
 }
 
 /// Makes the terms of a goal and those of a head equal, whose variables are counted from these numbers; false
@@ -127,27 +194,20 @@ pub(crate) fn unify_lists(
     let mut at: usize = 0;
     let mut next: usize = 0;
     while next < head.len() {
-        if let Some(span) = work.pop() {
-            match turn(state, scratch, work, span, head, next, base)? {
-                Some(after) => next = after,
-                None => return Ok(false),
+        match take_next(state, work, goal, at, first, head, next)? {
+            Taken::Apart => return Ok(false),
+            Taken::Alike(on) => {
+                at = on;
+                next += 1;
             }
-            continue;
+            Taken::Value(value, on) => {
+                at = on;
+                match meet_head(state, scratch, work, value, head, next, base)? {
+                    Some(after) => next = after,
+                    None => return Ok(false),
+                }
+            }
         }
-        if are_alike(goal, at, head, next) {
-            at = next_cell(goal, at);
-            next += 1;
-            continue;
-        }
-        if are_apart(goal, at, head, next) {
-            return Ok(false);
-        }
-        let end = end_of(goal, at);
-        match meet_goal(state, scratch, work, goal, at, end, first, head, next, base)? {
-            Some(after) => next = after,
-            None => return Ok(false),
-        }
-        at = end;
     }
     Ok(true)
 }

@@ -225,7 +225,6 @@ pub(crate) fn add_bound(state: &mut State, value: Value) -> Result<u32, AllocErr
     ensures heap { IfOk result (λ _. state.new.heap.items ≡ state.old.heap.items) }
     ensures follows { IfOk result (λ v. Follows state.old state.new (equation (variable v) (value_term state.old.heap.items value))) }
 {
-    let number = state.add_slot(None)?;
-    state.bind(number, None, value)?;
+    let number = state.define(value)?;
     Ok(number)
 }

@@ -3,3 +3,4 @@ pub mod Prefixes
 pub mod Walked
 pub mod Once
 pub mod Asked
+pub mod Within

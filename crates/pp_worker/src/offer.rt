@@ -1,27 +1,11 @@
 //! A worker offers what is left of a task.
-ghost use Rattle.std.specs.Prelude.{◌≡◌, ◌++◌, IfOk, OnOk};
+ghost use Rattle.std.specs.Prelude.{◌≡◌, ◌++◌, OnOk};
 ghost use Rattle.pp_deal.specs.Hands.{SameHand, offered};
 ghost use Rattle.pp_worker.specs.Turns.{offers_if};
 
 use pp_cell::Accepted;
 use pp_deal::Hand;
-use pp_space::Space;
-use std::alloc::{AllocError, Global};
-
-/// The tasks, copied.
-pub(crate) fn copy_tasks<S: Space>(
-    alloc: Global,
-    space: &S,
-    tasks: &[S::Task],
-) -> Result<Vec<S::Task>, AllocError>
-    ensures { IfOk result (λ copies. copies.items ≡ tasks.now) }
-{
-    let mut copies = Vec::with_capacity(alloc, tasks.len())?;
-    for i in 0..tasks.len() {
-        copies.push_reserved(space.copy_task(&tasks[i])?);
-    }
-    Ok(copies)
-}
+use std::alloc::AllocError;
 
 /// Offers all of them, in order.
 fn offer_all<T: Drop>(hand: &mut Hand<T>, mut tasks: Vec<T>) -> Result<(), AllocError>

@@ -15,7 +15,7 @@ fn main(rt: HostRuntime) -> ExitCode {
     let mut source = StdinSource::new(rt.stdin());
     let mut sink = StdoutSink::new(rt.stdout());
     let words = words(&rt);
-    ended(served(rt.alloc(), &words, &mut source, &mut sink))
+    ended(served(&rt, rt.alloc(), &words, &mut source, &mut sink))
 }
 
 /// All words of the command line, the program's own name first.

@@ -3,13 +3,25 @@ ghost use Rattle.std.specs.Prelude.{◌≤◌, Some, []};
 
 use super::only;
 use pp_io::{Failed, MemorySink, MemorySource, Sink, Source, SteadySink, SteadySource};
-use pp_run::{Status, alone};
+use pp_run::{Status, alone, propia};
+use pp_watch::Watcher;
+use pp_worker::OpenGate;
 use std::alloc::Global;
 use std::process::Abort;
 
 const EQUAL: &str = "eq(a,a). eq(b,b). ?- eq(X,Y) infers most.";
 
 const ANSWER: &[u8] = b"X = _0\nY = _0\nyes\n";
+
+/// A command line of these words.
+fn words_of(rt: &impl Abort, alloc: Global, words: &[&str]) -> Vec<String> {
+    let mut texts = Vec::new(alloc);
+    for word in words {
+        let text = String::from_str(alloc, word).expect(rt, "memory");
+        texts.push(text).expect(rt, "memory");
+    }
+    texts
+}
 
 /// The status of the command `alone`.
 fn status_of(
@@ -18,10 +30,9 @@ fn status_of(
     source: &mut impl Source,
     sink: &mut impl Sink,
 ) -> Status {
-    let mut words = Vec::new(alloc);
-    let word = String::from_str(alloc, "alone").expect(rt, "memory");
-    words.push(word).expect(rt, "memory");
-    alone(alloc, &words, source, sink)
+    let words = words_of(rt, alloc, &["alone"]);
+    let mut watchers: Vec<Box<dyn Watcher>> = Vec::new(alloc);
+    alone(alloc, &words, source, sink, &mut watchers)
 }
 
 fn text(rt: &impl Abort, alloc: Global) -> Vec<u8> {
@@ -79,6 +90,29 @@ fn each_failing_write_is_a_write_fault_behind_the_writes_before(rt: HostRuntime)
         expect(&rt, rt.alloc(), (4_096, 0), (3, call), wanted);
     }
     expect(&rt, rt.alloc(), (4_096, 0), (3, 7), (Status::Yes, ANSWER));
+}
+
+#[test]
+fn make_leaves_the_source(rt: HostRuntime) {
+    let alloc = rt.alloc();
+    let words = words_of(&rt, alloc, &["make", "1"]);
+    let mut source = MemorySource::new(text(&rt, alloc), 4_096, only(&rt, alloc, 1));
+    let mut sink = SteadySink::new(alloc, 4_096).expect(&rt, "memory");
+    let mut watchers: Vec<Box<dyn Watcher>> = Vec::new(alloc);
+    let status = propia(
+        &rt,
+        alloc,
+        &words,
+        &mut source,
+        &mut sink,
+        &OpenGate,
+        &mut watchers,
+    );
+    assert_eq!(rt; status, Status::Yes);
+    assert_eq!(rt;
+        sink.bytes(),
+        b"verdict yes\nturns 4\nbound 5\nsizes 24\n".as_slice()
+    );
 }
 
 /// A sink that takes nothing and counts that as a fault.

@@ -10,7 +10,16 @@ fn expect_run(rt: &impl Abort, alloc: Global, text: &str, turns: u64, wanted: (E
     let query = query(rt, alloc, text);
     let mut store = begun(rt, alloc, &query);
     let clauses = Clauses::new(alloc);
-    let fixed = fix_alone(alloc, &clauses, &query, &mut store, 1000, turns);
+    let mut watchers = Vec::new(alloc);
+    let fixed = fix_alone(
+        alloc,
+        &clauses,
+        &query,
+        &mut store,
+        1000,
+        turns,
+        &mut watchers,
+    );
     let fixed = fixed.expect(rt, "memory");
     assert_eq!(rt; (fixed.end, fixed.turns), (wanted.0, wanted.1));
     assert!(rt; fixed.unfinished.as_slice().is_empty());

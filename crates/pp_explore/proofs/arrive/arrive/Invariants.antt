@@ -1,4 +1,4 @@
-use Rattle.std.proofs.Common.{◌≡◌, ◌⊎◌, List, [], ◌∷◌}
+use Rattle.std.proofs.Common.{◌≡◌, ◌⊎◌, [], ◌∷◌}
 use Rattle.pp_sld.specs.Works.{IsLater}
 use Rattle.pp_path.specs.Works.{work_by}
 use Rattle.pp_explore.specs.Standing.{StaysOver}

@@ -1,6 +1,6 @@
 use Rattle.pp_sld.specs.Reports.{HasWalked}
 use Rattle.pp_path.specs.Works.{work_by}
-use Rattle.std.proofs.Common.{◌≡◌, List, [], ◌∷◌, ◌++◌, map, Some, refl, ap, sym, ◌∙◌, subst}
+use Rattle.std.proofs.Common.{◌≡◌, [], ◌∷◌, ◌++◌, map, ap, sym, ◌∙◌, subst}
 use Rattle.pp_sld.proofs.Reports.{walk_splits}
 use Rattle.pp_explore.proofs.Searched.{split_later, both_later}
 use Rattle.pp_explore.proofs.task.divided.Goals as goal

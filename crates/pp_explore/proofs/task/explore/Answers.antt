@@ -1,4 +1,4 @@
-use Rattle.std.proofs.Common.{[], map, sym, ◌∙◌, subst}
+use Rattle.std.proofs.Common.{map, sym, subst}
 use Rattle.pp_path.specs.Works.{work_by}
 use Rattle.pp_explore.specs.Exploring.{HasGathered}
 use Rattle.pp_explore.proofs.Standing.{map_ok}

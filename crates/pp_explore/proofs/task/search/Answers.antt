@@ -1,8 +1,8 @@
-use Rattle.std.proofs.Common.{rules, [], ◌∷◌, map, refl, arith, sym, ◌∙◌, subst}
+use Rattle.std.proofs.Common.{rules, [], ◌∷◌, map, arith, sym, ◌∙◌, subst}
 use Rattle.std.proofs.lemmas.Grind.{common_steps}
 use Rattle.pp_path.specs.Works.{work_by}
 use Rattle.pp_explore.specs.Searching.{state, HasSearched}
-use Rattle.pp_explore.proofs.Searched.{no_bit, searched_more, searched_split, searched_nothing}
+use Rattle.pp_explore.proofs.Searched.{searched_more, searched_split}
 use Rattle.pp_explore.proofs.task.search.Goals as goal
 
 pub returns-in-Done-clause-searched : goal.returns-in-Done-clause-searched

@@ -1,4 +1,4 @@
-use Rattle.std.proofs.Common.{◌≡◌, ◌+◌, ◌≤◌, false, List, [], ◌∷◌}
+use Rattle.std.proofs.Common.{◌≡◌, ◌+◌, ◌≤◌, false, [], ◌∷◌}
 use Rattle.pp_sld.specs.Works.{Work}
 use Rattle.pp_path.specs.Works.{work_by}
 use Rattle.pp_stop.specs.Seats.{IsSeatOf, has_seen, late, loads}

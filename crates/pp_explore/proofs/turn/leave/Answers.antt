@@ -1,6 +1,5 @@
 use Rattle.std.proofs.Common.{◌≤◌, length, subst, sym, refl}
-use Rattle.pp_path.specs.Works.{work_by, levels_of}
-use Rattle.pp_explore.proofs.Arriving.{next_has_level, at_of}
+use Rattle.pp_explore.proofs.Arriving.{next_has_level}
 use Rattle.pp_explore.proofs.turn.leave.Goals as goal
 
 pub overflow_sub-depth : goal.overflow_sub-depth

@@ -1,7 +1,7 @@
 use Rattle.std.proofs.Common.{◌≡◌, rules, length, ap, sym, ◌∙◌}
 use Rattle.pp_algebra.specs.Terms.{count}
-use Rattle.pp_find.proofs.Widths.{count-trees_of}
 use Rattle.pp_find.proofs.bound.checked.Goals as goal
+use Rattle.pp_row.proofs.ColumnLists.{count-trees_of}
 
 width : (c : goal.Else-branch) → count c.args.candidate.columns ≡ count c.args.call.now.columns
 width c =

@@ -1,43 +1,51 @@
-use Rattle.std.proofs.Common.{rules}
-use Rattle.pp_run.proofs.Commands.{none_asked, one_asked}
-use Rattle.pp_run.proofs.EndingLemmas.{after_bad_words, after_long_text, after_text, same_reply, drained}
+use Rattle.std.proofs.Common.{refl, ap, map}
+use Rattle.std.proofs.lemmas.List.Elements.{All-map}
+use Rattle.std.specs.Prelude.{IfOk, string_bytes}
+use Rattle.pp_language.specs.Commands.{AreWordsOfAlone}
+use Rattle.pp_propagation.specs.Watchers.{HasRoom}
+use Rattle.pp_run.specs.Made.{IsRanOf}
+use Rattle.pp_run.proofs.Commands.{none_asked, one_asked, runs_text, text_replied, text_noted}
+use Rattle.pp_run.proofs.EndingLemmas.{after_bad_words}
 use Rattle.pp_run.proofs.Refusing.{syntax_by, limit_by}
+use Rattle.pp_run.proofs.Serving.{refused_replied, given_answered, given_noted}
 use Rattle.pp_run.proofs.command.alone.Goals as goal
 
 pub returns-in-Ok-None-clause-replied : goal.returns-in-Ok-None-clause-replied
-returns-in-Ok-None-clause-replied g c = after_bad_words _ _ _ _ _ (none_asked _ _ c.in-Ok-None.ensures c.in-Ok-None.field-0-is) c.written.ensures.wrote
+returns-in-Ok-None-clause-replied g c = after_bad_words AreWordsOfAlone _ _ _ _ _ _ _ (none_asked AreWordsOfAlone _ _ c.in-Ok-None.ensures c.in-Ok-None.field-0-is) refl c.written.ensures.wrote
 
 pub returns-in-Ok-None-clause-words : goal.returns-in-Ok-None-clause-words
-returns-in-Ok-None-clause-words g c = λ command h. absurd (none_asked _ _ c.in-Ok-None.ensures c.in-Ok-None.field-0-is command h)
+returns-in-Ok-None-clause-words g c = λ command h. absurd (none_asked AreWordsOfAlone _ _ c.in-Ok-None.ensures c.in-Ok-None.field-0-is command h)
 
-pub returns-in-Err-Fault-clause-usage : goal.returns-in-Err-Fault-clause-usage
-returns-in-Err-Fault-clause-usage g c = λ unserved. absurd (unserved c.in-Ok-Some.command (one_asked _ _ c.in-Ok-Some.ensures c.in-Ok-Some.command c.in-Ok-Some.field-0-is))
+pub returns-in-Err-given-clause-replied : goal.returns-in-Err-given-clause-replied
+returns-in-Err-given-clause-replied g c =
+    let command = c.in-Ok-Some.command in
+    let asked = one_asked AreWordsOfAlone _ _ c.in-Ok-Some.ensures command c.in-Ok-Some.field-0-is in
+    text_replied AreWordsOfAlone _ command asked _ _ _ _ _ (runs_text command.kind asked.1) _ (refused_replied command.settings command.trace _ _ _ c.in-Err-given.status _ c.in-Err-given.ensures.refused)
 
-pub returns-in-Err-Memory-clause-usage : goal.returns-in-Err-Memory-clause-usage
-returns-in-Err-Memory-clause-usage g c = λ unserved. absurd (unserved c.in-Ok-Some.command (one_asked _ _ c.in-Ok-Some.ensures c.in-Ok-Some.command c.in-Ok-Some.field-0-is))
+pub returns-in-Err-given-clause-usage : goal.returns-in-Err-given-clause-usage
+returns-in-Err-given-clause-usage g c = λ unserved. absurd (unserved c.in-Ok-Some.command (one_asked AreWordsOfAlone _ _ c.in-Ok-Some.ensures c.in-Ok-Some.command c.in-Ok-Some.field-0-is))
 
-pub returns-in-Err-TooLong-clause-usage : goal.returns-in-Err-TooLong-clause-usage
-returns-in-Err-TooLong-clause-usage g c = λ unserved. absurd (unserved c.in-Ok-Some.command (one_asked _ _ c.in-Ok-Some.ensures c.in-Ok-Some.command c.in-Ok-Some.field-0-is))
+pub returns-in-Err-given-clause-syntax : goal.returns-in-Err-given-clause-syntax
+returns-in-Err-given-clause-syntax g c = syntax_by AreWordsOfAlone _ _ _ _ _ _ _ (returns-in-Err-given-clause-replied g c)
 
-pub returns-in-Ok-reply_to-clause-usage : goal.returns-in-Ok-reply_to-clause-usage
-returns-in-Ok-reply_to-clause-usage g c = λ unserved. absurd (unserved c.in-Ok-Some.command (one_asked _ _ c.in-Ok-Some.ensures c.in-Ok-Some.command c.in-Ok-Some.field-0-is))
+pub returns-in-Err-given-clause-limit : goal.returns-in-Err-given-clause-limit
+returns-in-Err-given-clause-limit g c = limit_by AreWordsOfAlone _ _ _ _ _ _ _ (returns-in-Err-given-clause-replied g c)
+
+pub returns-clause-replied : goal.returns-clause-replied
+returns-clause-replied g c =
+    let command = c.in-Ok-Some.command in
+    let asked = one_asked AreWordsOfAlone _ _ c.in-Ok-Some.ensures command c.in-Ok-Some.field-0-is in
+    let p = c.in-Ok.program in
+    text_replied AreWordsOfAlone _ command asked _ _ _ _ _ (runs_text command.kind asked.1) _
+    (given_answered command.settings command.trace p _ _ _ (ap (map _) c.deref.ensures.value) _ _ _ _ _ (ap g.K.Sink.taken c.in-Ok.ensures.unwritten) _ c.run_alone-ran.result c.in-Ok.ensures.given c.run_alone-ran.ensures.run
+    (λ text writes small ran. c.finish_text.ensures.replied p text _ refl refl writes small ran))
 
 pub returns-clause-usage : goal.returns-clause-usage
-returns-clause-usage g c = λ unserved. absurd (unserved c.in-Ok-Some.command (one_asked _ _ c.in-Ok-Some.ensures c.in-Ok-Some.command c.in-Ok-Some.field-0-is))
+returns-clause-usage g c = λ unserved. absurd (unserved c.in-Ok-Some.command (one_asked AreWordsOfAlone _ _ c.in-Ok-Some.ensures c.in-Ok-Some.command c.in-Ok-Some.field-0-is))
 
-pub returns-in-Err-TooLong-clause-replied : goal.returns-in-Err-TooLong-clause-replied
-returns-in-Err-TooLong-clause-replied g c = after_long_text _ c.in-Ok-Some.command _ _ _ _ (one_asked _ _ c.in-Ok-Some.ensures c.in-Ok-Some.command c.in-Ok-Some.field-0-is) (c.in-Err-TooLong.ensures.too_long (search rules)) c.written-in-Err-TooLong.ensures.wrote
-
-pub returns-in-Ok-reply_to-clause-replied : goal.returns-in-Ok-reply_to-clause-replied
-returns-in-Ok-reply_to-clause-replied g c =
-    after_text _ c.in-Ok-Some.command _ _ _ _ _ _ c.in-Ok-reply_to.reply.status _ (one_asked _ _ c.in-Ok-Some.ensures c.in-Ok-Some.command c.in-Ok-Some.field-0-is) c.in-Ok.ensures.all
-    (same_reply c.in-Ok-Some.command.settings c.deref.result.now _ c.in-Ok-reply_to.reply.status _ c.in-Ok-reply_to.reply.bytes.items c.deref.ensures.value c.deref-in-Ok-reply_to.ensures.value c.in-Ok-reply_to.ensures.reply) c.written-in-Ok-reply_to.ensures.wrote
-
-pub returns-in-Ok-reply_to-clause-syntax : goal.returns-in-Ok-reply_to-clause-syntax
-returns-in-Ok-reply_to-clause-syntax g c = syntax_by _ _ _ _ _ (returns-in-Ok-reply_to-clause-replied g c)
-
-pub returns-in-Ok-reply_to-clause-limit : goal.returns-in-Ok-reply_to-clause-limit
-returns-in-Ok-reply_to-clause-limit g c = limit_by _ _ _ _ _ (returns-in-Ok-reply_to-clause-replied g c)
-
-pub returns-in-Ok-reply_to-clause-drained : goal.returns-in-Ok-reply_to-clause-drained
-returns-in-Ok-reply_to-clause-drained g c = λ _. drained _ _ _ c.in-Ok.ensures.all
+pub returns-clause-memory : goal.returns-clause-memory
+returns-clause-memory g c = λ _.
+    let command = c.in-Ok-Some.command in
+    let asked = one_asked AreWordsOfAlone _ _ c.in-Ok-Some.ensures command c.in-Ok-Some.field-0-is in
+    text_noted AreWordsOfAlone _ command asked _ _ (runs_text command.kind asked.1) _
+    (given_noted command.settings c.in-Ok.program _ _ c.run_alone-ran.result (All-map HasRoom _ _ c.requires.room) c.run_alone-ran.ensures.run c.run_alone-ran.ensures.noted _ _ c.in-Ok.ensures.given)

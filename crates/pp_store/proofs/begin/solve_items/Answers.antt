@@ -1,6 +1,6 @@
 use Rattle.std.proofs.Common.{◌∷◌, [], subst}
 use Rattle.pp_unify.specs.States.{present}
-use Rattle.pp_store.specs.Deciding.{AreDecided}
+use Rattle.pp_unify.specs.Forests.{AreDecided}
 use Rattle.pp_store.proofs.Solving.{items_in, left_next}
 use Rattle.pp_store.proofs.begin.solve_items.Goals as goal
 

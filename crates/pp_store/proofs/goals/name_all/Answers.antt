@@ -4,9 +4,10 @@ use Rattle.pp_algebra.specs.Covers.{IsIn}
 use Rattle.pp_algebra.specs.Terms.{variables, variables_all}
 use Rattle.pp_algebra.proofs.Antisym.{IsIn-either}
 use Rattle.pp_row.specs.Columns.{trees_of}
-use Rattle.pp_store.proofs.Applying.{IsIn-terms, variables-push}
+use Rattle.pp_store.proofs.Applying.{IsIn-terms}
 use Rattle.pp_store.proofs.Noting.{more_then}
 use Rattle.pp_store.proofs.goals.name_all.Goals as goal
+use Rattle.pp_row.proofs.ColumnLists.{variables-push}
 
 pub add-requires : goal.add-requires
 add-requires c = record {

@@ -1,4 +1,4 @@
-use Rattle.std.proofs.Common.{◌<◌, ◌≤◌, length, IsSome, refl, arith, sym, ◌∙◌}
+use Rattle.std.proofs.Common.{◌<◌, ◌≤◌, length, IsSome, arith, sym, ◌∙◌}
 use Rattle.pp_explore.proofs.Standing.{back_nearer, back_there, stays_popped}
 use Rattle.pp_explore.proofs.walker.Walker.back_to.Goals as goal
 

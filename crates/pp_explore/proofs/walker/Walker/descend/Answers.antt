@@ -1,5 +1,4 @@
-use Rattle.std.proofs.Common.{sym}
-use Rattle.pp_explore.proofs.Standing.{stays, stays_tried, missed_tried, missed_no_place, missed_ended}
+use Rattle.pp_explore.proofs.Standing.{stays_tried, missed_tried, missed_no_place, missed_ended}
 use Rattle.pp_explore.proofs.walker.Walker.descend.Goals as goal
 
 pub returns-then-at-count-clause-stands : goal.returns-then-at-count-clause-stands

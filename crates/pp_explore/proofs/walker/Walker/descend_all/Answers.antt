@@ -1,4 +1,4 @@
-use Rattle.std.proofs.Common.{◌≡◌, ◌+◌, ◌<◌, suc, ◌∷◌, ◌++◌, length, get_or, drop, arith, ap, sym, ◌∙◌, subst, append_assoc, take}
+use Rattle.std.proofs.Common.{◌≡◌, ◌<◌, suc, ◌∷◌, ◌++◌, length, get_or, drop, arith, ap, sym, ◌∙◌, subst, append_assoc, take}
 use Rattle.pp_sld.specs.Reach.{Misses}
 use Rattle.pp_path.specs.Works.{level}
 use Rattle.pp_explore.specs.Standing.{nows}

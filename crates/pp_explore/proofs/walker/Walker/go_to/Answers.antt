@@ -1,4 +1,4 @@
-use Rattle.std.proofs.Common.{◌≡◌, ◌-◌, ◌++◌, length, take, drop, ap, subst, sym, ◌∙◌}
+use Rattle.std.proofs.Common.{◌≡◌, ◌-◌, ◌++◌, length, take, drop, ap, subst, ◌∙◌}
 use Rattle.pp_sld.specs.Reach.{Misses}
 use Rattle.pp_explore.specs.Standing.{nows}
 use Rattle.pp_explore.proofs.Standing.{map_ok, take-rest}

@@ -5,7 +5,7 @@ use Rattle.pp_algebra.specs.Terms.{count}
 use Rattle.pp_propagation.specs.Stores.{face}
 use Rattle.pp_row.specs.Columns.{set_by}
 use Rattle.pp_store.specs.Queries.{AtGoal}
-use Rattle.pp_store.proofs.Applying.{count-trees_of}
+use Rattle.pp_row.proofs.ColumnLists.{count-trees_of}
 use Rattle.pp_fix_tests.proofs.tests.stores.expect_applied.Goals as goal
 
 pub apply-requires-clause-given : goal.apply-requires-clause-given

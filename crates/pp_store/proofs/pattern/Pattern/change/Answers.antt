@@ -9,10 +9,11 @@ use Rattle.pp_row.specs.Substitution.{term_at}
 use Rattle.pp_store.specs.Occurring.{AreGathered}
 use Rattle.pp_store.specs.Patterns.{column_at, names_at, under_numbers, IsChange, IsMeant}
 use Rattle.pp_store.specs.Replacing.{replacement}
-use Rattle.pp_store.proofs.Applying.{goal_with, count-trees_of}
+use Rattle.pp_store.proofs.Applying.{goal_with}
 use Rattle.pp_store.proofs.Lists.{in_has, in_get}
 use Rattle.pp_store.proofs.Planning.{terms_under, names_distinct, name_below, row_below, meant, face_wide, numbers_by}
 use Rattle.pp_store.proofs.pattern.Pattern.change.Goals as goal
+use Rattle.pp_row.proofs.ColumnLists.{count-trees_of}
 
 pub face_names-requires : goal.face_names-requires
 face_names-requires c = λ v i. subst (λ cs. v < length cs) (sym c.deref.ensures.value) (c.requires.below v i)

@@ -4,9 +4,9 @@ use Rattle.pp_algebra.specs.Rows.{AreWide}
 use Rattle.pp_algebra.specs.Terms.{count, variables, variables_all}
 use Rattle.pp_row.specs.Columns.{trees_of, sets_of}
 use Rattle.pp_store.specs.Patterns.{column_at}
-use Rattle.pp_store.proofs.Applying.{count-trees_of}
 use Rattle.pp_store.proofs.Opening.{below_row, opened_row}
 use Rattle.pp_store.proofs.pattern.Pattern.new.Goals as goal
+use Rattle.pp_row.proofs.ColumnLists.{count-trees_of}
 
 pub places_of-requires : goal.places_of-requires
 places_of-requires c =

@@ -4,7 +4,7 @@ use Rattle.pp_row.specs.Columns.{trees_of}
 use Rattle.pp_term.specs.WellFormed.{IsItem}
 use Rattle.pp_propagation.specs.Stores.{Begins}
 use Rattle.pp_unify.specs.States.{present, IsOver}
-use Rattle.pp_store.specs.Deciding.{AreDecided}
+use Rattle.pp_unify.specs.Forests.{AreDecided}
 use Rattle.pp_store.specs.Queries.{query_by}
 use Rattle.pp_store.proofs.Solving.{items_in, free_at_first, items_whole, decided_begins, decided_nowhere, begun-count, variables_over, whole_row}
 use Rattle.pp_store.proofs.store.Store.begin.Goals as goal

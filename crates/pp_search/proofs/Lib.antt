@@ -1,0 +1,3 @@
+pub mod Again
+pub mod Fitting
+pub mod Same

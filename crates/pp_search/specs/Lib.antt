@@ -1,0 +1,4 @@
+pub mod Worths
+pub mod Orders
+pub mod Searches
+pub mod Laws
