@@ -24,7 +24,7 @@ for text in "$@"; do
   python3 "$here/bench/texts.py" "$text" >"$work/input"
   printf '%-14s %10s' "$text" "$(best "$program" alone --depth 10000 --turns 1000000)"
   case $text in
-    adder* | ring | sudoku | bounded | permutations | early) ;;
+    adder* | ring | sudoku | zebra | bounded | permutations | early | counting | waiting | woken) ;;
     *)
       if command -v swipl >/dev/null; then
         python3 "$here/bench/texts.py" "$text" prolog >"$work/all"

@@ -1,6 +1,7 @@
 #!/usr/bin/env python3
 """Prints a text to be timed, by its name. With the word `prolog` behind it, the clauses for a Prolog system and the
 goal, in a last line."""
+import itertools
 import random
 import sys
 
@@ -33,6 +34,11 @@ def peano():
     return "add(z,X,X).\nadd(s(X),Y,s(Z)) :- add(X,Y,Z).\n" + numbers(100) + f"t(Z) :- m(X), add({five},z,Z).\n", "t(Z)"
 
 
+def length():
+    """50 times the length of a list of 3,000 elements, by a head with `_` before its other variables: 150,050 calls."""
+    return "len(nil,z).\nlen(c(_,T),s(N)) :- len(T,N).\n" + numbers(50) + f"t(N) :- m(X), len({chain(range(3000))},N).\n", "t(N)"
+
+
 def scan():
     """50 times 10,000 facts of three columns."""
     rows = "".join(f"row({i % 100},a{i % 7},b{i % 13}).\n" for i in range(10000))
@@ -47,6 +53,20 @@ def queens(prolog=False):
     values = ", ".join(f"between(1,8,{q})" if prolog else f"indomain({q})" for q in QUEENS)
     goal = f"t({','.join(QUEENS)})"
     return rules + f"{goal} :- {ranges}safe({chain(QUEENS)}), {values}.\n", goal
+
+
+def waiting(count):
+    """100 times a recursion of 5,000 steps and a failure, beside so many comparisons that wait."""
+    rules = "low(0).\nlow(N) :- 0 #< N, X #< 1000000, plus(M,1,N), low(M).\n"
+    rules += "loop(0).\nloop(N) :- 0 #< N, plus(M,1,N), loop(M).\n" + numbers(100)
+    return rules + f"t(R) :- low({count}), m(R), loop(5000), R #< 0.\n", "t(R)"
+
+
+def woken(count):
+    """So many comparisons that wait, and then the values of their variables, one after another."""
+    rules = "make(0,nil).\nmake(N,c(X,Xs)) :- 0 #< N, plus(M,1,N), make(M,Xs).\n"
+    rules += "low(nil).\nlow(c(X,Xs)) :- X #< 1000000, low(Xs).\nset(nil).\nset(c(1,Xs)) :- set(Xs).\n"
+    return rules + f"t(Xs) :- make({count},Xs), low(Xs), set(Xs).\n", "t(Xs)"
 
 
 def permutations():
@@ -126,8 +146,20 @@ def sudoku():
     return PERMUTE + f"g({','.join(names)}) :- perm(c(1,c(2,c(3,c(4,c(5,c(6,nil)))))),{chain(names)}).\n?- {goals}.\n"
 
 
-GOALS = {"reverse": reverse, "peano": peano, "scan": scan, "queens": queens, "permutations": permutations, "early": early, "table": table, "gaps": gaps, "gaps60000": lambda: gaps(60000), "shuffled": shuffled, "deep": deep, "pairs": pairs, "wide": wide}
-QUERIES = {"adder100": lambda: adder(100), "adder999": lambda: adder(999), "ring": ring, "sudoku": sudoku, "bounded": bounded}
+def zebra():
+    """The zebra puzzle: who lives in which of five houses. Each sort of thing has them in some order, by a table."""
+    facts = "".join(f"all({','.join(map(str, order))}).\n" for order in itertools.permutations(range(1, 6)))
+    facts += "".join(f"right({i + 1},{i}).\n" for i in range(1, 5))
+    facts += "".join(f"next({i + 1},{i}).\nnext({i},{i + 1}).\n" for i in range(1, 5))
+    given = "English = Red, Spanish = Dog, Coffee = Green, Ukrainian = Tea, Gold = Snails, Kools = Yellow, Milk = 3, Norwegian = 1, Lucky = Juice, Japanese = Parlia"
+    beside = ["right(Green,Ivory)", "next(Chester,Fox)", "next(Kools,Horse)", "next(Norwegian,Blue)"]
+    sorts = ["Red,Green,Ivory,Yellow,Blue", "English,Spanish,Ukrainian,Norwegian,Japanese", "Dog,Snails,Fox,Horse,Zebra", "Coffee,Tea,Milk,Juice,Water", "Gold,Kools,Chester,Lucky,Parlia"]
+    goals = ", ".join(f"{goal} infers most" for goal in [*beside, *(f"all({sort})" for sort in sorts)])
+    return f"{facts}?- {given}, {goals}.\n"
+
+
+GOALS = {"reverse": reverse, "peano": peano, "length": length, "scan": scan, "queens": queens, "counting": lambda: waiting(0), "waiting": lambda: waiting(1000), "woken": lambda: woken(1000), "permutations": permutations, "early": early, "table": table, "gaps": gaps, "gaps60000": lambda: gaps(60000), "shuffled": shuffled, "deep": deep, "pairs": pairs, "wide": wide}
+QUERIES = {"adder100": lambda: adder(100), "adder999": lambda: adder(999), "ring": ring, "sudoku": sudoku, "zebra": zebra, "bounded": bounded}
 
 
 def main():

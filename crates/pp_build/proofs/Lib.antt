@@ -1,1 +1,4 @@
 pub mod Arguments
+pub mod FirstNumbers
+pub mod Numbering
+pub mod RenumberedClauses

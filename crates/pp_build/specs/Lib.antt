@@ -1,3 +1,4 @@
 pub mod Meanings
 pub mod Pieces
+pub mod Renumbered
 pub mod Values

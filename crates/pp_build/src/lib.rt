@@ -3,6 +3,8 @@
 
 mod clauses;
 mod goals;
+mod renumber;
 mod terms;
 
 pub use clauses::{clause, query};
+pub use renumber::renumbered;

@@ -3,6 +3,7 @@
 mod copies;
 mod reading;
 mod runs;
+mod watchers;
 mod writing;
 
 use std::alloc::Global;
@@ -22,4 +23,14 @@ fn only(rt: &impl Abort, alloc: Global, call: u64) -> Vec<u64> {
     let mut calls = Vec::new(alloc);
     calls.push(call).expect(rt, "memory");
     calls
+}
+
+/// A command line of these words.
+fn words_of(rt: &impl Abort, alloc: Global, words: &[&str]) -> Vec<String> {
+    let mut texts = Vec::new(alloc);
+    for word in words {
+        let text = String::from_str(alloc, word).expect(rt, "memory");
+        texts.push(text).expect(rt, "memory");
+    }
+    texts
 }

@@ -47,15 +47,34 @@ fn with_domains(alloc: Global, row: &Row, domains: &[Option<Domain>]) -> Result<
     Row::canon(alloc, columns, domains)
 }
 
-/// Integers right behind an interval of the first domain that the second has.
-fn push_ends(values: &mut Vec<i64>, domain: &Domain, whole: &Domain) -> Result<(), AllocError> {
-    for interval in domain.intervals() {
-        let next = interval.1.saturating_add(1);
-        if whole.has(next) {
-            values.push(next)?;
-        }
+/// The integer in the middle between two, where the domain has it.
+fn push_middle(
+    values: &mut Vec<i64>,
+    low: i64,
+    high: i64,
+    whole: &Domain,
+) -> Result<(), AllocError> {
+    if high < low {
+        return Ok(());
+    }
+    let middle = low.saturating_add(high.saturating_sub(low) / 2);
+    if whole.has(middle) {
+        values.push(middle)?;
     }
     Ok(())
+}
+
+/// An integer in the middle of each gap of the first domain, where the second has it.
+fn push_middles(values: &mut Vec<i64>, domain: &Domain, whole: &Domain) -> Result<(), AllocError> {
+    let (Some(first), Some(last)) = (whole.intervals().first(), whole.intervals().last()) else {
+        return Ok(());
+    };
+    let mut low = first.0;
+    for interval in domain.intervals() {
+        push_middle(values, low, interval.0.saturating_sub(1), whole)?;
+        low = interval.1.saturating_add(1);
+    }
+    push_middle(values, low, last.1, whole)
 }
 
 /// Integers at which an interval of the second domain begins and that the first has not.
@@ -68,17 +87,17 @@ fn push_starts(values: &mut Vec<i64>, domain: &Domain, whole: &Domain) -> Result
     Ok(())
 }
 
-/// The second domain without one integer that the first has not. It is taken from the middle, so that it comes late
-/// in most orders.
+/// The second domain without one integer that the first has not. It is taken from inside what is missing, and not from
+/// its middle, where two sides may meet: so it comes late in most orders.
 fn all_but_one(
     alloc: Global,
     domain: &Domain,
     whole: &Domain,
 ) -> Result<Option<Domain>, AllocError> {
     let mut values = Vec::new(alloc);
-    push_ends(&mut values, domain, whole)?;
+    push_middles(&mut values, domain, whole)?;
     push_starts(&mut values, domain, whole)?;
-    match values.get(values.len() / 2) {
+    match values.get(values.len().saturating_mul(5) / 13) {
         Some(value) => whole.without(*value),
         None => Ok(None),
     }

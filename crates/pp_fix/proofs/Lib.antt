@@ -3,3 +3,4 @@ mod Waking
 mod Marking
 mod Turning
 mod Watched
+mod Resting

@@ -7,6 +7,7 @@ use Rattle.pp_algebra.proofs.Bools.{nat_same}
 use Rattle.pp_sld.specs.Verdicts.{Verdict}
 use Rattle.pp_propagation.specs.Turns.{Commit}
 use Rattle.pp_propagation.specs.Histories.{last_verdict, is_unfinished, numbers_from, unfinished_goals}
+use Rattle.pp_fixpoint.proofs.Settled.{last-push}
 use Rattle.pp_fix.specs.Marked.{marked}
 
 -- the k-th flag is that of goal k + 1
@@ -15,10 +16,6 @@ AreFlags n history flags = (k : ℕ) → k < n → get_or flags k false ≡ is_u
 
 pub none_is_up : (n : ℕ) → AreFlags n [] (replicate n false)
 none_is_up n k l = get_or-replicate n k false false l
-
-last-push : (before : Option Verdict) (k : ℕ) (history : List Commit) (c : Commit) → last_verdict before k (history ++ c ∷ []) ≡ cond (nat_eq c.goal k) (Some c.verdict) (last_verdict before k history)
-last-push before k [] c = refl
-last-push before k (d ∷ history) c = last-push (cond (nat_eq d.goal k) (Some d.verdict) before) k history c
 
 pub flag_set : (n : ℕ) (history : List Commit) (flags : List Bool) (c : Commit) → AreFlags n history flags → length flags ≡ n → 1 ≤ c.goal → c.goal ≤ n → AreFlags n (history ++ c ∷ []) (set flags (c.goal - 1) (is_unfinished (Some c.verdict)))
 flag_set n history flags c a many low high k l = elim (cases_eq k (c.goal - 1)) [

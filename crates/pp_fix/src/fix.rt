@@ -1,5 +1,5 @@
 //! Turns until no goal waits, a goal fails, or so many were made.
-ghost use Rattle.std.specs.Prelude.{◌≡◌, ◌≤◌, All, map, IfOk, OnErr};
+ghost use Rattle.std.specs.Prelude.{◌≡◌, ◌≢◌, ◌≤◌, All, map, IfOk, OnErr};
 ghost use Rattle.pp_language.specs.declared.limits.TheConstants.{WORKER_LIMIT};
 ghost use Rattle.pp_propagation.specs.Watchers.{HasRoom};
 ghost use Rattle.pp_algebra.specs.Terms.{count};
@@ -9,7 +9,9 @@ ghost use Rattle.pp_term.specs.WellFormed.{IsQuery, arguments_of};
 ghost use Rattle.pp_find.specs.Meanings.{verdict_by};
 ghost use Rattle.pp_store.specs.Kept.{IsStoreOf};
 ghost use Rattle.pp_store.specs.Queries.{goals_in};
+ghost use Rattle.pp_fixpoint.specs.Fixpoints.{IsFixpoint, AreEnoughTurns};
 ghost use Rattle.pp_fix.specs.Fixing.{IsFixed, IsBetweenTurns};
+ghost use Rattle.pp_fix.specs.declared.fix.End.TheVariants.{Yes, Stopped};
 
 use crate::commit::{Progress, commit};
 use crate::search::{Question, asked, searched};
@@ -127,6 +129,8 @@ pub fn fix_alone(
     requires room { All (λ w. HasRoom (state w)) watchers.old.items }
     ensures run { IfOk result (λ f. IsFixed (program clauses.now) (goals_in query.now) depth turns store.old.row store.new.row
         (map (λ w. state w) watchers.old.items) (map (λ w. state w) watchers.new.items) f) }
+    ensures fixpoint { IfOk result (λ f. f.end ≡ Yes → IsFixpoint (program clauses.now) (goals_in query.now) depth store.new.row f.unfinished) }
+    ensures enough { IfOk result (λ f. AreEnoughTurns (goals_in query.now) store.old.row turns → f.end ≢ Stopped) }
     ensures whole { OnErr result (IsBetweenTurns (program clauses.now) (goals_in query.now) depth turns store.old.row store.new.row
         (map (λ w. state w) watchers.old.items) (map (λ w. state w) watchers.new.items)) }
     ensures of_query { IsStoreOf query.now store.new }
@@ -157,6 +161,8 @@ pub fn fix_with<G: Gate, R: Threads + Wait + Sync>(
     requires room { All (λ w. HasRoom (state w)) watchers.old.items }
     ensures run { IfOk result (λ f. IsFixed (program clauses.now) (goals_in query.now) settings.depth settings.turns store.old.row store.new.row
         (map (λ w. state w) watchers.old.items) (map (λ w. state w) watchers.new.items) f) }
+    ensures fixpoint { IfOk result (λ f. f.end ≡ Yes → IsFixpoint (program clauses.now) (goals_in query.now) settings.depth store.new.row f.unfinished) }
+    ensures enough { IfOk result (λ f. AreEnoughTurns (goals_in query.now) store.old.row settings.turns → f.end ≢ Stopped) }
     ensures whole { OnErr result (IsBetweenTurns (program clauses.now) (goals_in query.now) settings.depth settings.turns store.old.row store.new.row
         (map (λ w. state w) watchers.old.items) (map (λ w. state w) watchers.new.items)) }
     ensures of_query { IsStoreOf query.now store.new }

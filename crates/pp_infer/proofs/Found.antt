@@ -1,6 +1,5 @@
 -- What is found from the root of a goal's search is its verdict.
-use Rattle.std.proofs.Common.{◌≡◌, ℕ, [], Some, Result, Ok, Err, refl, ap, sym, ◌∙◌, subst}
-use Rattle.std.specs.Prelude.{IfOk}
+use Rattle.std.proofs.Common.{◌≡◌, ℕ, [], Some, refl, ap, sym, ◌∙◌, subst}
 use Rattle.pp_algebra.specs.Rows.{Row}
 use Rattle.pp_algebra.specs.Numbered.{call}
 use Rattle.pp_sld.specs.Goals.{Shape, Program}
@@ -29,10 +28,6 @@ verdict_by-verdict_to verdicts.same = refl
 verdict_by-verdict_to verdicts.nothing = refl
 verdict_by-verdict_to verdicts.unfinished = refl
 verdict_by-verdict_to (verdicts.narrow r) = refl
-
-pub map_ok : {A E : Type 0} {P Q : A → Type 0} (r : Result A E) → ((a : A) → P a → Q a) → IfOk r P → IfOk r Q
-map_ok (Ok a) f p = f a p
-map_ok (Err e) f p = tt
 
 module _ (clauses : Program) (p : Place) (c : Row) where
   pub all_under : IsAtSomeRoot p c → (t : Search) → IsSearch clauses p.here t → LeavesUnder c (leaves t)

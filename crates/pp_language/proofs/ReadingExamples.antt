@@ -2,7 +2,7 @@
 use Rattle.std.proofs.Common.{ℕ, ◌<◌, inl, inr, [], refl, arith}
 use Rattle.pp_language.specs.Sentences.{clean}
 use Rattle.pp_language.specs.Faults.{IsFaultAt, NoQuery}
-use Rattle.pp_language.specs.ReadingExamples.{IntegersAreSpelled, InfersIsNoAtom, QuotesAreDoubled, CommentsAreGaps, PointEndsSentence, EmptyTextLacksQuery, ClausesAreCounted, ArgumentsAreCounted, NamedVariablesComeFirst}
+use Rattle.pp_language.specs.ReadingExamples.{IntegersAreSpelled, InfersIsNoAtom, QuotesAreDoubled, CommentsAreGaps, PointEndsSentence, EmptyTextLacksQuery, ClausesAreCounted, ArgumentsAreCounted, FactsAreNumberedInOrder, NamedVariablesComeFirst}
 
 pub integers_are_spelled : IntegersAreSpelled
 integers_are_spelled = (refl, refl, refl, refl)
@@ -39,6 +39,9 @@ clauses_are_counted = (refl, refl)
 
 pub arguments_are_counted : ArgumentsAreCounted
 arguments_are_counted = (refl, refl)
+
+pub facts_are_numbered_in_order : FactsAreNumberedInOrder
+facts_are_numbered_in_order = refl
 
 pub named_variables_come_first : NamedVariablesComeFirst
 named_variables_come_first = refl

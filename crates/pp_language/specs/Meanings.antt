@@ -53,7 +53,7 @@ abbrev pub keyed_lists : List Text → ℕ → List Phrases → List (Trees Key)
 keyed_lists names n [] = []
 keyed_lists names n (ps ∷ pss) = keyed_all names n ps ∷ keyed_lists names (n + blanks_all ps) pss
 
--- the variables in order of first occurrence; a sentence numbers the named ones first, and then each `_`
+-- the variables in order of first occurrence
 abbrev pub keys_in : List (Trees Key) → List Key
 keys_in tss = firsts same_key [] (flat_map variables_all tss)
 
@@ -148,13 +148,15 @@ head_predicate names (integer_phrase bs) = record { name = 0; arity = 0 }
 head_predicate names (variable_phrase bs) = record { name = 0; arity = 0 }
 head_predicate names (said w ps) = predicate_by names w ps
 
+-- a clause numbers its variables in that order
 abbrev pub clause_by : List Text → Phrase → List Item → Predicate × Clause
 clause_by names p is =
     let head = keyed_all names 0 (said_arguments p) in
     let bodies = keyed_lists names (blanks_all (said_arguments p)) (map item_phrases is) in
-    let ks = named_first (keys_in (head ∷ bodies)) in
+    let ks = keys_in (head ∷ bodies) in
     (head_predicate names p, record { head = numbered ks head; body = goals_by names is (map (numbered ks) bodies) })
 
+-- the query numbers the named ones first, and then each `_`
 abbrev pub query_by : List Text → List Item → Query
 query_by names is =
     let tss = keyed_lists names 0 (map item_phrases is) in

@@ -1,6 +1,8 @@
--- Worked examples of reading: spelling, white space and comments, sentences, a fault, limits, and what a clause writes.
+-- Worked examples of reading: spelling, white space and comments, sentences, a fault, limits, and what a clause and a query write.
 use Rattle.std.specs.Prelude.{◌≡◌, ℕ, zero, suc, true, false, [], ◌∷◌, ◌-◌, Some, None, codes}
 use Rattle.pp_algebra.specs.Terms.{variable, none, more}
+use Rattle.pp_sld.specs.Goals.{user}
+use Rattle.pp_sld.specs.Verdicts.{most}
 use Rattle.pp_language.specs.declared.token.Kind.{Kind}
 use Rattle.pp_language.specs.declared.token.Kind.TheVariants.{Integer, Atom, Quoted, Infers, Variable, Point}
 use Rattle.pp_language.specs.declared.token.Token.{Token}
@@ -11,10 +13,11 @@ use Rattle.pp_language.specs.Tokens.{clear, in_block, gap_from, IsGap, IsLastGap
 use Rattle.pp_language.specs.Sentences.{FallInto}
 use Rattle.pp_language.specs.Words.{word}
 use Rattle.pp_language.specs.Phrases.{Phrase, integer_phrase, variable_phrase, said, Phrases, no_phrases, phrase_and}
-use Rattle.pp_language.specs.Statements.{clause}
+use Rattle.pp_language.specs.Statements.{clause, asks}
 use Rattle.pp_language.specs.Faults.{IsSyntaxFault}
 use Rattle.pp_language.specs.Limits.{passed}
-use Rattle.pp_language.specs.Meanings.{clause_by}
+use Rattle.pp_language.specs.Meanings.{clause_by, query_by}
+use Rattle.pp_language.specs.Programs.{infers}
 
 -- leading zeros are allowed, a sign alone is no number, and the range ends at 10^12
 abbrev pub IntegersAreSpelled : Type 0
@@ -57,8 +60,18 @@ ClausesAreCounted = (passed (CLAUSE_LIMIT - 1) (clause (head no_phrases) []) ≡
 abbrev pub ArgumentsAreCounted : Type 0
 ArgumentsAreCounted = (passed 0 (clause (head (arguments ARITY_LIMIT)) []) ≡ None) × (passed 0 (clause (head (arguments (suc ARITY_LIMIT))) []) ≡ Some Arity)
 
--- the fact p(_,X,X): the named variable is numbered first
+-- p(_,X,X)
+abbrev pub blank_and_twice : Phrase
+blank_and_twice = head (phrase_and (variable_phrase (codes "_")) (phrase_and (variable_phrase (codes "X")) (phrase_and (variable_phrase (codes "X")) no_phrases)))
+
+-- as a fact its variables are numbered by first occurrence
+abbrev pub FactsAreNumberedInOrder : Type 0
+FactsAreNumberedInOrder =
+    clause_by (codes "p" ∷ []) blank_and_twice []
+    ≡ (record { name = 0; arity = 3 }, record { head = more (variable 0) (more (variable 1) (more (variable 1) none)); body = [] })
+
+-- as a query's goal with the named one first
 abbrev pub NamedVariablesComeFirst : Type 0
 NamedVariablesComeFirst =
-    clause_by (codes "p" ∷ []) (head (phrase_and (variable_phrase (codes "_")) (phrase_and (variable_phrase (codes "X")) (phrase_and (variable_phrase (codes "X")) no_phrases)))) []
-    ≡ (record { name = 0; arity = 3 }, record { head = more (variable 1) (more (variable 0) (more (variable 0) none)); body = [] })
+    query_by (codes "p" ∷ []) (asks blank_and_twice most ∷ [])
+    ≡ record { variables = 2; named = codes "X" ∷ []; items = infers (record { shape = user (record { name = 0; arity = 3 }); arguments = more (variable 1) (more (variable 0) (more (variable 0) none)) }) most ∷ [] }

@@ -2,7 +2,7 @@
 ghost use Rattle.pp_language.specs.Examples.{AdjacentIntegersJoin, SpacedAtomIsQuoted, QuoteIsDoubled, InfersIsQuoted, PlainAtomIsPlain, CompoundIsWritten, RangesFollowColumns, NoLine, UsageLine};
 ghost use Rattle.pp_language.specs.CommandExamples.{AloneIsPlain, BothSpellings, ZerosMayLead, NumberStandsLast, TraceIsTold, OthersAreNoWords, MoreAreNoWords};
 ghost use Rattle.pp_language.specs.GeneratorExamples.{FirstNumbers, FirstAdder, LastAdder, ProgramLines, QueryOfTwo, LinesOfThree, ChangeIsTold, SummaryIsWritten, FailureIsSummed};
-ghost use Rattle.pp_language.specs.ReadingExamples.{IntegersAreSpelled, InfersIsNoAtom, QuotesAreDoubled, CommentsAreGaps, PointEndsSentence, EmptyTextLacksQuery, ClausesAreCounted, ArgumentsAreCounted, NamedVariablesComeFirst};
+ghost use Rattle.pp_language.specs.ReadingExamples.{IntegersAreSpelled, InfersIsNoAtom, QuotesAreDoubled, CommentsAreGaps, PointEndsSentence, EmptyTextLacksQuery, ClausesAreCounted, ArgumentsAreCounted, FactsAreNumberedInOrder, NamedVariablesComeFirst};
 
 /// How domains, atoms, terms and rows are written, and two of the fixed lines.
 pub fn worked_examples()
@@ -41,7 +41,7 @@ pub fn worked_generator()
     ensures failure_is_summed { FailureIsSummed }
 {}
 
-/// How texts are read: tokens, gaps, sentences, a fault, limits, and a clause.
+/// How texts are read: tokens, gaps, sentences, a fault, limits, a clause and a query.
 pub fn worked_reading()
     ensures integers_are_spelled { IntegersAreSpelled }
     ensures infers_is_no_atom { InfersIsNoAtom }
@@ -51,5 +51,6 @@ pub fn worked_reading()
     ensures empty_text_lacks_query { EmptyTextLacksQuery }
     ensures clauses_are_counted { ClausesAreCounted }
     ensures arguments_are_counted { ArgumentsAreCounted }
+    ensures facts_are_numbered_in_order { FactsAreNumberedInOrder }
     ensures named_variables_come_first { NamedVariablesComeFirst }
 {}

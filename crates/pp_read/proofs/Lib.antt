@@ -10,6 +10,7 @@ pub mod PartTexts
 pub mod MadeStatements
 pub mod WellMade
 pub mod Counted
+pub mod NumberedAgain
 pub mod MadeClauses
 pub mod MadeQueries
 pub mod Ready

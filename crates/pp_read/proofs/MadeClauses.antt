@@ -8,7 +8,7 @@ use Rattle.pp_algebra.specs.Canon.{firsts}
 use Rattle.pp_algebra.specs.Least.{arguments}
 use Rattle.pp_sld.specs.Goals as goals
 use Rattle.pp_language.specs.Texts.{Text}
-use Rattle.pp_language.specs.Keys.{texts_of}
+use Rattle.pp_language.specs.Keys.{same_key, texts_of}
 use Rattle.pp_language.specs.Phrases.{Phrase, integer_phrase, variable_phrase, said, is_phrase, are_phrases, parts_words}
 use Rattle.pp_language.specs.Statements.{Item, calls, equates, belongs, compares, asks, clause, statement_parts, is_callable, is_head, is_item, is_body_item, is_comparison}
 use Rattle.pp_language.specs.Meanings.{blanks_all, said_arguments, item_phrases, head_predicate, clause_by, predicate_by}
@@ -22,6 +22,8 @@ use Rattle.pp_parse.specs.declared.items.Entry.{Entry}
 use Rattle.pp_parse.specs.Terms.{terms_of}
 use Rattle.pp_build.specs.Pieces.{tree_at, predicate_of_tree}
 use Rattle.pp_build.specs.Values.{goal_from}
+use Rattle.pp_build.specs.Renumbered.{clause_variables, placed, renumbered}
+use Rattle.pp_build.proofs.RenumberedClauses.{variables_of_clause, meaning, clause_with, clause-put, renumbered_formed}
 use Rattle.pp_read.specs.Passed.{is_wide}
 use Rattle.pp_read.specs.Sizes.{variables_of, IsCounted}
 use Rattle.pp_parse.specs.Parsed.{IsKnown}
@@ -31,8 +33,9 @@ use Rattle.pp_read.proofs.ListKeys.{list_keys, list_blanks, list_terms}
 use Rattle.pp_parse.proofs.Spelled.{spelled_all}
 use Rattle.pp_read.proofs.PartsAt.{parts_wide, good_all}
 use Rattle.pp_parse.proofs.ReadingLeaves.{terms-count}
-use Rattle.pp_read.proofs.MadeStatements.{clause_lists, head_callable, clause_keys, clause_named, clause_counted, ClauseMade, clause_made, make_pair, make_clause, clause_is}
-use Rattle.pp_read.proofs.Counted.{variables_counted}
+use Rattle.pp_read.proofs.MadeStatements.{clause_lists, head_callable, clause_keys, clause_named, clause_counted, ClauseMade, clause_made, make_pair, make_clause, numbered_clause, parsed_keys, clause_is}
+use Rattle.pp_read.proofs.Counted.{keys, has_place, has_named_place, variables_counted}
+use Rattle.pp_read.proofs.NumberedAgain.{clause_again}
 use Rattle.pp_read.proofs.WellMade.{Below, lists_below, call_made, goals_made}
 
 callable_arguments : (p : Phrase) → is_callable p ≡ true → are_phrases (said_arguments p) ≡ true
@@ -71,13 +74,13 @@ module _ (names named : List Text) (count : ℕ) (ps : List Part) (p : Phrase) (
       let size : count ≡ list_blanks pss = clause_counted names named count ps p is h g k in
       lists_below names named (length named + count) (omega arith) 0 (length named) pss forms known (omega arith)
 
-  pub record IsWritten (c : Clause) : Type 0 where
-    pub value : clause_of c ≡ clause_by names p is
-    pub formed : IsClause c
-    pub counted : IsCounted c
+  record IsParsed (c : Clause) : Type 0 where
+    value : clause_of c ≡ make_pair (head_predicate names p) (numbered_clause names p is (parsed_keys names p is))
+    formed : IsClause c
+    counted : IsCounted c
 
-  pub clause_written : (es : List Entry) (c : Clause) → ClauseMade names named ps p is es → predicate_of c.pred ≡ predicate_of_tree (tree_at ps 0) → trees_of c.head ≡ arguments (tree_at ps 0) → map goal_of c.body ≡ map (goal_from names ps) es → c.vars ≡ length named + count → IsWritten c
-  clause_written es c m pred head body vars =
+  clause_parsed : (es : List Entry) (c : Clause) → ClauseMade names named ps p is es → predicate_of c.pred ≡ predicate_of_tree (tree_at ps 0) → trees_of c.head ≡ arguments (tree_at ps 0) → map goal_of c.body ≡ map (goal_from names ps) es → c.vars ≡ length named + count → IsParsed c
+  clause_parsed es c m pred head body vars =
       let n = length named in
       let b = blanks_all (said_arguments p) in
       let us = terms_of names named n (said_arguments p) in
@@ -90,7 +93,7 @@ module _ (names named : List Text) (count : ℕ) (ps : List Part) (p : Phrase) (
       let below = subst (λ v. All (Below v) (list_terms names named n (clause_lists p is))) (sym vars) clause_below in
       record {
         value = value;
-        counted = vars ∙ sym (clause_keys names named count ps p is h g k).counted ∙ sym (variables_counted names p is) ∙ ap (λ x. length (firsts nat_eq [] (variables_of x.1))) (sym value);
+        counted = vars ∙ sym (clause_keys names named count ps p is h g k).counted ∙ sym (variables_counted names p is (parsed_keys names p is) (has_named_place (keys names p is))) ∙ ap (λ x. length (firsts nat_eq [] (variables_of x.1))) (sym value);
         formed = record {
           head = head_formed p (head_callable p h) c (pred ∙ m.pred) (head ∙ m.args) (All-head (Below c.vars) us rest below);
           body = goals_made names named c.vars c.body is (n + b) (body ∙ m.goals) (All-tail (Below c.vars) us rest below);
@@ -101,3 +104,27 @@ module _ (names named : List Text) (count : ℕ) (ps : List Part) (p : Phrase) (
       head_formed (integer_phrase bs) s d e f l = absurd (cc)
       head_formed (variable_phrase bs) s d e f l = absurd (cc)
       head_formed (said w us) s d e f l = call_made d.vars (User d.pred) d.head (goals.user (predicate_by names w us)) (terms_of names named (length named) us) (ap goals.user e) f (sym (terms-count names named (length named) us)) l
+
+  pub record IsWritten (c : Clause) : Type 0 where
+    pub value : clause_of c ≡ clause_by names p is
+    pub formed : IsClause c
+    pub counted : IsCounted c
+
+  renumbered_written : (c : Clause) → IsParsed c → c.vars ≡ length named + count → IsWritten (renumbered c)
+  renumbered_written c w vars =
+      let all = keys names p is in
+      let same = variables_of_clause c in
+      let value =
+      clause-put (placed (firsts nat_eq [] (clause_variables c))) c
+      ∙ ap (λ vs. meaning (predicate_of c.pred) (clause_with (placed (firsts nat_eq [] vs)) (clause_of c).1)) same
+      ∙ ap (λ x. meaning x.0 (clause_with (placed (firsts nat_eq [] (variables_of x.1))) x.1)) w.value
+      ∙ ap (meaning (head_predicate names p)) (clause_again names p is (parsed_keys names p is) (has_named_place all))
+      in
+      record {
+        value = value;
+        formed = renumbered_formed c w.formed (w.counted ∙ ap (λ vs. length (firsts nat_eq [] vs)) (sym same));
+        counted = vars ∙ sym (clause_keys names named count ps p is h g k).counted ∙ sym (variables_counted names p is (firsts same_key [] all) (has_place all)) ∙ ap (λ x. length (firsts nat_eq [] (variables_of x.1))) (sym value);
+      }
+
+  pub clause_written : (es : List Entry) (c : Clause) → ClauseMade names named ps p is es → predicate_of c.pred ≡ predicate_of_tree (tree_at ps 0) → trees_of c.head ≡ arguments (tree_at ps 0) → map goal_of c.body ≡ map (goal_from names ps) es → c.vars ≡ length named + count → IsWritten (renumbered c)
+  clause_written es c m pred head body vars = renumbered_written c (clause_parsed es c m pred head body vars) vars

@@ -14,11 +14,11 @@ use Rattle.pp_language.specs.declared.which.Which.TheVariants.{Clauses, Arity, V
 use Rattle.pp_language.specs.Texts.{Text}
 use Rattle.pp_algebra.specs.Texts.{same_text}
 use Rattle.pp_language.specs.Words.{Word, is_name_kind}
-use Rattle.pp_language.specs.Keys.{texts_of, named_first, numbered}
+use Rattle.pp_language.specs.Keys.{Key, texts_of, named_first, numbered}
 use Rattle.pp_language.specs.Phrases as phrases
 use Rattle.pp_language.specs.Phrases.{Phrase, integer_phrase, variable_phrase, said, Phrases, count, is_phrase, are_phrases, term_part, mark, phrase_words}
 use Rattle.pp_language.specs.Statements.{Item, clause, items_parts, statement_parts, is_callable, is_head, is_item, is_body_item}
-use Rattle.pp_language.specs.Meanings.{blanks, blanks_all, keyed_all, said_arguments, item_phrases, goal_by, goals_by, head_predicate, clause_by, keyed_lists, keys_in}
+use Rattle.pp_language.specs.Meanings.{blanks, blanks_all, keyed_all, said_arguments, item_phrases, goal_by, goals_by, head_predicate, keyed_lists, keys_in}
 use Rattle.pp_language.specs.Limits.{is_above, is_too_wide, item_too_wide, when, passed}
 use Rattle.pp_parse.specs.declared.parts.Part.{Part}
 use Rattle.pp_parse.specs.declared.items.Entry.{Entry}
@@ -131,9 +131,17 @@ make_clause ts gs = record { head = ts; body = gs }
 abbrev pub make_pair : Predicate → Clause → Predicate × Clause
 make_pair p c = (p, c)
 
+-- the clause whose variables are numbered by their places in a list
+abbrev pub numbered_clause : List Text → Phrase → List Item → List Key → Clause
+numbered_clause names p is ks = make_clause (numbered ks (keyed_all names 0 (said_arguments p))) (goals_by names is (map (numbered ks) (keyed_lists names (blanks_all (said_arguments p)) (map item_phrases is))))
+
+-- the parser numbers the named ones first
+abbrev pub parsed_keys : List Text → Phrase → List Item → List Key
+parsed_keys names p is = named_first (keys_in (keyed_all names 0 (said_arguments p) ∷ keyed_lists names (blanks_all (said_arguments p)) (map item_phrases is)))
+
 -- the variables of the goals are numbered as the code numbers them
 pub clause_is : (names named : List Text) (count : ℕ) (p : Phrase) (is : List Item) → AreKeys names named count (clause_lists p is)
-    → make_pair (head_predicate names p) (make_clause (terms_of names named (length named) (said_arguments p)) (goals_by names is (list_terms names named (length named + blanks_all (said_arguments p)) (map item_phrases is)))) ≡ clause_by names p is
+    → make_pair (head_predicate names p) (make_clause (terms_of names named (length named) (said_arguments p)) (goals_by names is (list_terms names named (length named + blanks_all (said_arguments p)) (map item_phrases is)))) ≡ make_pair (head_predicate names p) (numbered_clause names p is (parsed_keys names p is))
 clause_is names named count p is k =
     let b = blanks_all (said_arguments p) in
     let pss = map item_phrases is in

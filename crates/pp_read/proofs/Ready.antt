@@ -25,6 +25,7 @@ use Rattle.pp_parse.specs.declared.statement.Layout.{Layout}
 use Rattle.pp_parse.specs.declared.statement.Layout.TheVariants as layouts
 use Rattle.pp_read.specs.declared.sentence.Said.TheVariants.{Directive, Clause, Query, OverClause, OverQuery}
 use Rattle.pp_build.specs.Pieces.{tree_at, predicate_of_tree}
+use Rattle.pp_build.specs.Renumbered.{renumbered}
 use Rattle.pp_build.specs.Values.{goal_from, item_from, HasCallableAt, IsGoalEntry, IsItemEntry}
 use Rattle.pp_read.specs.Sizes.{is_annotated}
 use Rattle.pp_read.specs.Passed.{is_wide, is_infer, clause_passed, query_passed}
@@ -100,14 +101,14 @@ module _ (names named : List Text) (count : ℕ) (ps : List Part) where
       (m.head, m.body)
 
   pub clause_is_made : (y : Layout) (l : Vec Entry Global) (n : ℕ) → y ≡ layouts.Clause l → (r : IsReady names named count ps y) (c : clauses.Clause) → None ≡ clause_passed n ps (length named + count)
-      → predicate_of c.pred ≡ predicate_of_tree (tree_at ps 0) → trees_of c.head ≡ arguments (tree_at ps 0) → map goal_of c.body ≡ map (goal_from names ps) l.items → c.vars ≡ length named + count → IsMade names n r.statement (Clause c)
+      → predicate_of c.pred ≡ predicate_of_tree (tree_at ps 0) → trees_of c.head ≡ arguments (tree_at ps 0) → map goal_of c.body ≡ map (goal_from names ps) l.items → c.vars ≡ length named + count → IsMade names n r.statement (Clause (renumbered c))
   clause_is_made y l n z r c h pred head body vars =
       let k = clause_ready y l z r in
       let m = clause_parts names named count ps k.head k.items k.is_headed k.are_items k.known l.items k.of_body (clause_narrow n ps (length named + count) (sym h)) k.entries in
       let w = clause_written names named count ps k.head k.items k.is_headed k.are_items k.known l.items c m pred head body vars in
       let p : passed n (clause k.head k.items) ≡ None = sym (clause_limit_is names named count ps k.head k.items k.is_headed k.are_items k.known n) ∙ sym h in
       let few : c.vars ≤ 255 = subst (λ v. v ≤ 255) (sym vars) (clause_few n ps (length named + count) (sym h)) in
-      subst (λ s. IsMade names n s (Clause c)) (sym k.same) (p, w.value, record { formed = w.formed; counted = w.counted; few_variables = few })
+      subst (λ s. IsMade names n s (Clause (renumbered c))) (sym k.same) (p, w.value, record { formed = w.formed; counted = w.counted; few_variables = few })
 
   pub clause_is_over : (y : Layout) (l : Vec Entry Global) (n : ℕ) → y ≡ layouts.Clause l → (r : IsReady names named count ps y) (w : Which) → Some w ≡ clause_passed n ps (length named + count) → IsMade names n r.statement (OverClause w)
   clause_is_over y l n z r w h =

@@ -9,7 +9,7 @@ ghost use Rattle.pp_parse.specs.Parsed.{IsReady};
 ghost use Rattle.pp_read.specs.Sentences.{IsMade, IsSaid};
 
 use crate::limits::{clause_limit, query_limit};
-use pp_build::{clause, query};
+use pp_build::{clause, query, renumbered};
 use pp_language::{Token, Which};
 use pp_parse::{Layout, Parsed, Part, Variables, parse};
 use pp_term::{Clause, Names, Query};
@@ -45,7 +45,8 @@ fn make(
             Some(which) => Ok(Said::OverClause(which)),
             None => {
                 let vars = variables.named.len() as u32 + variables.blanks;
-                Ok(Said::Clause(clause(alloc, names, parts, entries, vars)?))
+                let written = clause(alloc, names, parts, entries, vars)?;
+                Ok(Said::Clause(renumbered(alloc, written)?))
             }
         },
         Layout::Query(entries) => match query_limit(parts, variables, entries.as_slice()) {

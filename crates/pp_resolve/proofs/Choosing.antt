@@ -41,6 +41,7 @@ use Rattle.pp_resolve.specs.Engines as engines
 use Rattle.pp_resolve.specs.Engines.{config_of, Stands, row_of, place_of, waiting, AllWait, IsKept, IsGood, IsGoalAt, Sees}
 use Rattle.pp_resolve.specs.Events.{follows, IsNext, Took}
 use Rattle.pp_resolve.proofs.Linked.{stepped, goal_there}
+use Rattle.pp_resolve.proofs.Waits.{waits_longer}
 use Rattle.pp_resolve.proofs.Saved.{history_longer}
 use Rattle.pp_resolve.proofs.Moving.{first_over}
 use Rattle.pp_resolve.proofs.Showing.{shown_lent}
@@ -193,7 +194,7 @@ module _ (e : Engine) (good : IsGood e) (wait : AllWait e) (n : ℕ) (sees : See
           rest = record { body = Some number; from = 0; to = to; first = first; next = nx }
 
           abbrev front : Front
-          front = record { passed = e.front.passed; rest = rest; depth = e.front.depth - 1; selected = None }
+          front = record { passed = e.front.passed; waits = e.front.waits; rest = rest; depth = e.front.depth - 1; selected = None }
 
           solved : AreDecided (with_many (row_of e) c.vars) (pairs (count (row_of e).columns) (trees_of c.head) e.front.rest.first (there).0.arguments) true q
           solved = subst (λ x. AreDecided (with_many (row_of e) c.vars) (pairs (count (row_of e).columns) (trees_of c.head) e.front.rest.first (there).0.arguments) x q) t decided
@@ -244,6 +245,7 @@ module _ (e : Engine) (good : IsGood e) (wait : AllWait e) (n : ℕ) (sees : See
               rest = record { formed = subst IsFormedAt (sym (at).at) (at).formed; from = omega arith; to = omega (arith, ap length body_is, mapped c.body, is_to c (at).at); next = linked.1; small = small };
               passed = good.here.passed;
               links = good.here.links;
+              waits = waits_longer cs (engines.goal_of e) e.history.bindings rs e.history.links.items e.front.passed e.front.waits l good.here.waits;
               known = tt;
             };
           }
@@ -322,15 +324,16 @@ module _ (e : Engine) (good : IsGood e) (wait : AllWait e) (sees : Sees e (Some 
           subst (λ x. IsDeadAt (program e.clauses.now) x place) (here_is e good wait sees.0 (item).0 (item).1)
           (so.value_failed (program e.clauses.now) (row_of e) good.here.row front_goals whole back_goals e.columns.columns e.front.depth (over e good wait sees.0 (item).0 (item).1) wait splitting place n value_there q (decides false h))
 
-      pub split_good : (rs : List Row) → present rs ≡ q → IsLonger e.history.bindings rs → AreDecided (row_of e) (at_place 0 n (terms_of d e.front.rest.first)) true q → IsGood (record { clauses = e.clauses; root = e.root; columns = e.columns; history = record e.history { bindings = rs }; front = record { passed = e.front.passed; rest = stepped e.front.rest; depth = e.front.depth; selected = None } })
+      pub split_good : (rs : List Row) → present rs ≡ q → IsLonger e.history.bindings rs → AreDecided (row_of e) (at_place 0 n (terms_of d e.front.rest.first)) true q → IsGood (record { clauses = e.clauses; root = e.root; columns = e.columns; history = record e.history { bindings = rs }; front = record { passed = e.front.passed; waits = e.front.waits; rest = stepped e.front.rest; depth = e.front.depth; selected = None } })
       split_good rs pr l h = record {
-        ready = kept_longer e rs (record { passed = e.front.passed; rest = stepped e.front.rest; depth = e.front.depth; selected = None }) good.ready l;
+        ready = kept_longer e rs (record { passed = e.front.passed; waits = e.front.waits; rest = stepped e.front.rest; depth = e.front.depth; selected = None }) good.ready l;
         here = record {
           row = subst IsRow (sym pr) (so.value_row (program e.clauses.now) (row_of e) good.here.row front_goals whole back_goals e.columns.columns e.front.depth (over e good wait sees.0 (item).0 (item).1) wait splitting place n value_there q (decides true h));
           over = subst (λ x. AreOver x (with_goals (front_goals ++ back_goals) e.columns.columns)) (sym pr) (so.value_over (program e.clauses.now) (row_of e) good.here.row front_goals whole back_goals e.columns.columns e.front.depth (over e good wait sees.0 (item).0 (item).1) wait splitting place n value_there q (decides true h));
           rest = stepped_rest e.clauses.now (engines.goal_of e) (length e.history.links.items) e.front.rest good.here.rest sees.0;
           passed = good.here.passed;
           links = good.here.links;
+          waits = waits_longer e.clauses.now (engines.goal_of e) e.history.bindings rs e.history.links.items e.front.passed e.front.waits l good.here.waits;
           known = tt;
         };
       }

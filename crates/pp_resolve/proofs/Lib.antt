@@ -5,6 +5,7 @@ pub mod Overs
 pub mod Showing
 pub mod Acting
 pub mod Linked
+pub mod Waits
 pub mod Moving
 pub mod Unwinding
 pub mod Steps

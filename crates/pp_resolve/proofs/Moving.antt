@@ -1,6 +1,7 @@
 -- An engine that stands at the same place with other links, or with a goal passed over.
-use Rattle.std.proofs.Common.{◌≡◌, ℕ, ◌+◌, ◌<◌, ◌≤◌, List, [], ◌∷◌, ◌++◌, length, get_or, map, reverse, All, Option, Some, None, refl, ap, sym, ◌∙◌, subst, arith, append_assoc}
+use Rattle.std.proofs.Common.{◌≡◌, ℕ, suc, ◌+◌, ◌<◌, ◌≤◌, List, [], ◌∷◌, ◌++◌, length, get_or, map, reverse, All, Option, Some, None, refl, ap, sym, ◌∙◌, subst, arith, append_assoc}
 use Rattle.std.proofs.lemmas.List.Elements.{All-nil, All-cons, All-append}
+use Rattle.pp_algebra.specs.Terms.{count}
 use Rattle.pp_algebra.specs.Rows.{Row, IsRow}
 use Rattle.pp_sld.specs.Goals.{Goal, Config, put_goal, with_goals}
 use Rattle.pp_term.specs.declared.clause.Clause.{Clause}
@@ -9,6 +10,7 @@ use Rattle.pp_unify.specs.Forests.{AreOver, counted_all}
 use Rattle.pp_walk.specs.Places.{Place}
 use Rattle.pp_resolve.specs.declared.history.Rest.{Rest}
 use Rattle.pp_resolve.specs.declared.history.Front.{Front}
+use Rattle.pp_resolve.specs.declared.history.Waits.{Waits}
 use Rattle.pp_resolve.specs.declared.history.History.{History}
 use Rattle.pp_resolve.specs.declared.engine.Engine.{Engine}
 use Rattle.pp_resolve.specs.Standing.{counted, config_in}
@@ -16,10 +18,11 @@ use Rattle.pp_resolve.specs.Frames.{frames_of, IsFit}
 use Rattle.pp_resolve.specs.Links.{piece, first_of, below, passed, goals_in, goals_of, IsRest, AreLinks}
 use Rattle.pp_goal.specs.declared.acts.Act.{Act}
 use Rattle.pp_goal.specs.declared.acts.Act.TheVariants.{Wait}
-use Rattle.pp_resolve.specs.Engines.{IsKnown, AllWait, Sees, config_of, Stands, goal_of, row_of, IsGood, IsSamePlace, waiting, DoWait, IsGoalAt}
+use Rattle.pp_resolve.specs.Engines.{IsKnown, Waited, DidWait, AllWait, Sees, config_of, Stands, goal_of, row_of, IsGood, IsSamePlace, waiting, DoWait, IsGoalAt}
 use Rattle.pp_resolve.specs.Shown.{root_of}
 use Rattle.pp_resolve.specs.Acts.{does}
 use Rattle.pp_resolve.proofs.Overs.{among}
+use Rattle.pp_resolve.proofs.Waits.{waits_present, waited_over}
 use Rattle.pp_resolve.proofs.Linked.{along_zero, along_still, along_new, link_along, goals_done, stepped, stepped_rest, first_is, goals_open}
 
 abbrev place : List Config → Config → Place
@@ -28,9 +31,9 @@ place above here = record { above = above; here = here }
 pub same_place : (e : Engine) (h : History) (f : Front) → IsGood e → h.bindings ≡ e.history.bindings → IsFit h → frames_of h ≡ frames_of e.history
     → goals_of e.clauses.now (goal_of e) h.links.items f ≡ goals_of e.clauses.now (goal_of e) e.history.links.items e.front → f.depth ≡ e.front.depth
     → IsRest e.clauses.now (goal_of e) (length h.links.items) f.rest → f.passed ≤ length h.links.items → AreLinks e.clauses.now (goal_of e) (reverse h.links.items)
-    → IsKnown e.clauses.now (goal_of e) (row_of e) h.links.items f f.selected
+    → DidWait e.clauses.now (goal_of e) e.history.bindings h.links.items f.passed f.waits → IsKnown e.clauses.now (goal_of e) (row_of e) h.links.items f f.selected
     → IsSamePlace e (record { clauses = e.clauses; root = e.root; columns = e.columns; history = h; front = f })
-same_place e h f g b fit fr gs d rest within links known =
+same_place e h f g b fit fr gs d rest within links waits known =
     let cs = e.clauses.now in
     let root = goal_of e in
     let calls = e.columns.columns in
@@ -44,6 +47,7 @@ same_place e h f g b fit fr gs d rest within links known =
           rest = rest;
           passed = within;
           links = links;
+          waits = subst (λ rs. DidWait cs root rs h.links.items f.passed f.waits) (sym b) waits;
           known = subst (λ rs. IsKnown cs root (present rs) h.links.items f f.selected) (sym b) known;
         };
       };
@@ -58,12 +62,12 @@ same_place e h f g b fit fr gs d rest within links known =
 
 -- the same history
 pub same_goals : (e : Engine) (f : Front) → IsGood e → goals_of e.clauses.now (goal_of e) e.history.links.items f ≡ goals_of e.clauses.now (goal_of e) e.history.links.items e.front → f.depth ≡ e.front.depth
-    → IsRest e.clauses.now (goal_of e) (length e.history.links.items) f.rest → f.passed ≤ length e.history.links.items → IsKnown e.clauses.now (goal_of e) (row_of e) e.history.links.items f f.selected
+    → IsRest e.clauses.now (goal_of e) (length e.history.links.items) f.rest → f.passed ≤ length e.history.links.items → DidWait e.clauses.now (goal_of e) e.history.bindings e.history.links.items f.passed f.waits → IsKnown e.clauses.now (goal_of e) (row_of e) e.history.links.items f f.selected
     → IsSamePlace e (record { clauses = e.clauses; root = e.root; columns = e.columns; history = e.history; front = f })
-same_goals e f g gs d rest within known = same_place e e.history f g refl g.ready.fit refl gs d rest within g.here.links known
+same_goals e f g gs d rest within waits known = same_place e e.history f g refl g.ready.fit refl gs d rest within g.here.links waits known
 
 pub same_self : (e : Engine) → IsGood e → IsSamePlace e e
-same_self e g = same_goals e e.front g refl refl g.here.rest g.here.passed g.here.known
+same_self e g = same_goals e e.front g refl refl g.here.rest g.here.passed g.here.waits g.here.known
 
 pub same_through : (a b c : Engine) → IsSamePlace a b → IsSamePlace b c → IsSamePlace a c
 same_through a b c m n = record {
@@ -110,10 +114,10 @@ known_still cs root r ls ms more f (Some a) e w k = (subst (DoWait r) (sym (alon
 
 -- what is done with the first goal that is left is kept
 pub kept_known : (e : Engine) (o : Option Act) → IsGood e → AllWait e → Sees e o → (o ≡ Some Wait → ⊥)
-    → IsSamePlace e (record { clauses = e.clauses; root = e.root; columns = e.columns; history = e.history; front = (let f : Front = record { passed = e.front.passed; rest = e.front.rest; depth = e.front.depth; selected = o } in f) })
-kept_known e o g w s r = same_goals e (record { passed = e.front.passed; rest = e.front.rest; depth = e.front.depth; selected = o }) g refl refl g.here.rest g.here.passed (known o s r)
+    → IsSamePlace e (record { clauses = e.clauses; root = e.root; columns = e.columns; history = e.history; front = (let f : Front = record { passed = e.front.passed; waits = e.front.waits; rest = e.front.rest; depth = e.front.depth; selected = o } in f) })
+kept_known e o g w s r = same_goals e (record { passed = e.front.passed; waits = e.front.waits; rest = e.front.rest; depth = e.front.depth; selected = o }) g refl refl g.here.rest g.here.passed g.here.waits (known o s r)
   where
-    known : (x : Option Act) → Sees e x → (x ≡ Some Wait → ⊥) → IsKnown e.clauses.now (goal_of e) (row_of e) e.history.links.items (record { passed = e.front.passed; rest = e.front.rest; depth = e.front.depth; selected = o }) x
+    known : (x : Option Act) → Sees e x → (x ≡ Some Wait → ⊥) → IsKnown e.clauses.now (goal_of e) (row_of e) e.history.links.items (record { passed = e.front.passed; waits = e.front.waits; rest = e.front.rest; depth = e.front.depth; selected = o }) x
     known None t q = tt
     known (Some a) t q = (w, t.0, t.1, λ z. q (ap Some z))
 
@@ -151,17 +155,29 @@ module _ (e : Engine) (h : IsGood e) (ls : List Rest) (n : ℕ) (w : e.front.res
       ∙ ap (λ gs. passed cs root (reverse ls) e.front.passed ++ gs) (first_is cs root one g at)
       ∙ ap (λ gs. gs ++ raw ∷ []) (sym (along_still (λ l gs. gs ++ first_of cs root l) ls ms (one ∷ []) e.front.passed new p))
 
-  abbrev front : Front
-  front = record { passed = n; rest = stepped e.front.rest; depth = e.front.depth; selected = None }
+  -- what is known of those that wait, in the present state
+  module _ (waits : Waits) (since : suc waits.since ≡ length e.history.bindings) (below : waits.below ≡ count (row_of e).columns) (others : DoWait (row_of e) (waiting e e.front.passed)) (does_it : does (row_of e) raw ≡ None) where
+    abbrev front : Front
+    front = record { passed = n; waits = waits; rest = stepped e.front.rest; depth = e.front.depth; selected = None }
 
-  goals_passed : goals_of cs root ms front ≡ goals_of cs root ms e.front
-  goals_passed =
-      ap (λ gs. gs ++ goals_in cs root ms (stepped e.front.rest)) chain_passed
-      ∙ append_assoc (waiting e e.front.passed) (raw ∷ []) (goals_in cs root ms (stepped e.front.rest))
-      ∙ ap (λ gs. waiting e e.front.passed ++ gs) (sym (goals_open cs root e.front.rest g at ms w))
+    goals_passed : goals_of cs root ms front ≡ goals_of cs root ms e.front
+    goals_passed =
+        ap (λ gs. gs ++ goals_in cs root ms (stepped e.front.rest)) chain_passed
+        ∙ append_assoc (waiting e e.front.passed) (raw ∷ []) (goals_in cs root ms (stepped e.front.rest))
+        ∙ ap (λ gs. waiting e e.front.passed ++ gs) (sym (goals_open cs root e.front.rest g at ms w))
 
-  pub passed_over : IsSamePlace e (record { clauses = e.clauses; root = e.root; columns = e.columns; history = e.history; front = front })
-  passed_over = same_goals e front h goals_passed refl (stepped_rest cs root (length ms) e.front.rest h.here.rest w) (omega (arith, size)) tt
+    pub now_wait : DoWait (row_of e) (waiting e n)
+    now_wait = subst (DoWait (row_of e)) (sym chain_passed) (All-append (λ x. does (row_of e) x ≡ None) (waiting e e.front.passed) (raw ∷ []) others (All-cons (λ x. does (row_of e) x ≡ None) raw [] does_it (All-nil (λ x. does (row_of e) x ≡ None))))
 
-  pub now_wait : DoWait (row_of e) (waiting e e.front.passed) → does (row_of e) raw ≡ None → DoWait (row_of e) (waiting e n)
-  now_wait a b = subst (DoWait (row_of e)) (sym chain_passed) (All-append (λ x. does (row_of e) x ≡ None) (waiting e e.front.passed) (raw ∷ []) a (All-cons (λ x. does (row_of e) x ≡ None) raw [] b (All-nil (λ x. does (row_of e) x ≡ None))))
+    passed_waits : DidWait cs root e.history.bindings ms n waits
+    passed_waits =
+        let over : AreOver (row_of e) (with_goals (waiting e n ++ goals_in cs root ms (stepped e.front.rest)) e.columns.columns) = subst (λ gs. AreOver (row_of e) (with_goals gs e.columns.columns)) (sym goals_passed) h.here.over in
+        waits_present cs root e.history.bindings ms n waits since (omega (arith, below))
+        (subst (λ k. All (Waited (row_of e) k) (waiting e n)) (sym below) (waited_over (row_of e) (waiting e n) (goals_in cs root ms (stepped e.front.rest)) e.columns.columns over now_wait))
+
+    pub passed_over : IsSamePlace e (record { clauses = e.clauses; root = e.root; columns = e.columns; history = e.history; front = front })
+    passed_over = same_goals e front h goals_passed refl (stepped_rest cs root (length ms) e.front.rest h.here.rest w) (omega (arith, size)) passed_waits tt
+
+-- the number above the variables of the goals that wait is still one of the row
+pub below_still : (a b : Engine) → IsSamePlace a b → b.front.waits ≡ a.front.waits → a.front.waits.below ≤ count (row_of a).columns → b.front.waits.below ≤ count (row_of b).columns
+below_still a b s e h = subst (λ w. w.below ≤ count (row_of b).columns) (sym e) (subst (λ rs. a.front.waits.below ≤ count (present rs).columns) (sym s.bindings) h)

@@ -2,7 +2,7 @@
 use Rattle.std.proofs.Common.{◌≡◌, ℕ, suc, List, [], ◌∷◌, ◌++◌, length, take, reverse, refl, ap, sym, ◌∙◌, subst, arith, length-append, append-nil}
 use Rattle.std.proofs.lemmas.List.{take_all, reverse-append, take-append-le}
 use Rattle.pp_algebra.specs.Rows.{Row}
-use Rattle.pp_unify.specs.States.{present, IsLonger}
+use Rattle.pp_unify.specs.States.{IsLonger}
 use Rattle.pp_resolve.specs.declared.history.Rest.{Rest}
 use Rattle.pp_resolve.specs.declared.history.Choice.{Choice}
 use Rattle.pp_resolve.specs.declared.history.History.{History}
@@ -14,8 +14,8 @@ frames_still rs more ls ms [] h = (refl, tt)
 frames_still rs more ls ms (c ∷ cs) h =
     let a = take-append-le (suc c.mark) rs more (omega (arith, h.0)) in
     let b = take-append-le c.links ls ms h.1 in (
-      ap (λ x. let f : Frame = record { row = present x; links = take c.links (ls ++ ms); front = c.front } in f ∷ frames x (take c.links (ls ++ ms)) cs) a
-          ∙ ap (λ y. let f : Frame = record { row = present (take (suc c.mark) rs); links = y; front = c.front } in f ∷ frames (take (suc c.mark) rs) y cs) b,
+      ap (λ x. let f : Frame = record { states = x; links = take c.links (ls ++ ms); front = c.front } in f ∷ frames x (take c.links (ls ++ ms)) cs) a
+          ∙ ap (λ y. let f : Frame = record { states = take (suc c.mark) rs; links = y; front = c.front } in f ∷ frames (take (suc c.mark) rs) y cs) b,
       (
         omega (arith, h.0, length-append rs more),
         omega (arith, h.1, length-append ls ms),
@@ -28,14 +28,14 @@ reversed cs ds c e = ap reverse e ∙ reverse-append cs (c ∷ [])
 
 -- the present state is kept
 pub frames_saved : (rs : List Row) (ls : List Rest) (cs ds : List Choice) (c : Choice) → suc c.mark ≡ length rs → c.links ≡ length ls → ds ≡ cs ++ c ∷ [] → AreThere rs ls (reverse cs)
-    → (frames rs ls (reverse ds) ≡ (let f : Frame = record { row = present rs; links = ls; front = c.front } in f) ∷ frames rs ls (reverse cs)) × AreThere rs ls (reverse ds)
+    → (frames rs ls (reverse ds) ≡ (let f : Frame = record { states = rs; links = ls; front = c.front } in f) ∷ frames rs ls (reverse cs)) × AreThere rs ls (reverse ds)
 frames_saved rs ls cs ds c m l e h =
     let a : take (suc c.mark) rs ≡ rs = take_all (suc c.mark) rs (omega (arith, m)) in
     let b : take c.links ls ≡ ls = take_all c.links ls (omega (arith, l)) in
     let there : AreThere rs ls (c ∷ reverse cs) = (omega (arith, m), omega (arith, l), subst (λ x. AreThere x (take c.links ls) (reverse cs)) (sym a) (subst (λ y. AreThere rs y (reverse cs)) (sym b) h)) in (
       ap (frames rs ls) (reversed cs ds c e)
-          ∙ ap (λ x. let f : Frame = record { row = present x; links = take c.links ls; front = c.front } in f ∷ frames x (take c.links ls) (reverse cs)) a
-          ∙ ap (λ y. let f : Frame = record { row = present rs; links = y; front = c.front } in f ∷ frames rs y (reverse cs)) b,
+          ∙ ap (λ x. let f : Frame = record { states = x; links = take c.links ls; front = c.front } in f ∷ frames x (take c.links ls) (reverse cs)) a
+          ∙ ap (λ y. let f : Frame = record { states = rs; links = y; front = c.front } in f ∷ frames rs y (reverse cs)) b,
       subst (AreThere rs ls) (sym (reversed cs ds c e)) there,
     )
 

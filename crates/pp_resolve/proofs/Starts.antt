@@ -10,18 +10,19 @@ use Rattle.pp_term.specs.declared.clause.Clause.{Clause}
 use Rattle.pp_unify.specs.Forests.{AreOver}
 use Rattle.pp_resolve.specs.declared.history.Rest.{Rest}
 use Rattle.pp_resolve.specs.declared.history.Front.{Front}
+use Rattle.pp_resolve.specs.declared.history.Waits.{Waits}
 use Rattle.pp_resolve.specs.Standing.{counted, config_in}
 use Rattle.pp_resolve.specs.Starting.{free_row}
 use Rattle.pp_resolve.specs.Links.{piece, first_of, below, goals_of}
 use Rattle.pp_resolve.proofs.Linked.{along_zero}
 use Rattle.pp_resolve.proofs.FreeRows.{config_root, root_over, root_row}
 
-module _ (cs : List Clause) (face : Row) (row : IsRow face) (s : goals.Shape) (depth : ℕ) (ts : Trees ℕ) (terms : ts ≡ face.columns) (ls : List Rest) (calls : Trees ℕ) (calls_are : calls ≡ variables_from 0 (length face.domains)) (r : Row) (free : r ≡ free_row face.domains) where
+module _ (cs : List Clause) (face : Row) (row : IsRow face) (s : goals.Shape) (depth : ℕ) (waits : Waits) (ts : Trees ℕ) (terms : ts ≡ face.columns) (ls : List Rest) (calls : Trees ℕ) (calls_are : calls ≡ variables_from 0 (length face.domains)) (r : Row) (free : r ≡ free_row face.domains) where
   abbrev asked : Goal ℕ
   asked = record { shape = s; arguments = ts }
 
   abbrev front : Front
-  front = record { passed = 0; rest = record { body = None; from = 0; to = 1; first = 0; next = 0 }; depth = depth; selected = None }
+  front = record { passed = 0; waits = waits; rest = record { body = None; from = 0; to = 1; first = 0; next = 0 }; depth = depth; selected = None }
 
   abbrev first : Trees ℕ → Goal ℕ
   first us = put_goal (counted 0) (record { shape = s; arguments = us })

@@ -9,10 +9,11 @@ use Rattle.pp_resolve.specs.declared.history.Front.{Front}
 use Rattle.pp_resolve.specs.declared.engine.Engine.{Engine}
 use Rattle.pp_resolve.specs.Standing.{counted}
 use Rattle.pp_resolve.specs.Links.{first_of, body_of, below, goals_in, goals_of, IsRest}
-use Rattle.pp_resolve.specs.Engines.{goal_of, row_of, IsGood, IsSamePlace, waiting, left, DoWait, IsGoalAt, IsLinkOf}
+use Rattle.pp_resolve.specs.Engines.{DidWait, goal_of, row_of, IsGood, IsSamePlace, waiting, left, DoWait, IsGoalAt, IsLinkOf}
 use Rattle.pp_resolve.specs.Acts.{does}
 use Rattle.pp_resolve.proofs.Overs.{among}
 use Rattle.pp_resolve.proofs.Linked.{along_zero, along_still, link_along, link_is, link_next, link_some, first_is}
+use Rattle.pp_resolve.proofs.Waits.{waits_linked, waits_first}
 use Rattle.pp_resolve.proofs.Moving.{same_goals, same_through, carried, left_still}
 
 -- a goal that was passed over is taken back
@@ -38,7 +39,7 @@ module _ (a e : Engine) (more : List Rest) (s : IsSamePlace a e) (front_is : e.f
   rest = record { body = l.body; from = l.from; to = l.from + 1; first = l.first; next = n }
 
   abbrev front : Front
-  front = record { passed = l.next; rest = rest; depth = e.front.depth; selected = None }
+  front = record { passed = l.next; waits = e.front.waits; rest = rest; depth = e.front.depth; selected = None }
 
   below_is : below cs root (reverse ms) n ≡ goals_in cs root ms a.front.rest
   below_is =
@@ -68,6 +69,15 @@ module _ (a e : Engine) (more : List Rest) (s : IsSamePlace a e) (front_is : e.f
       ∙ sym (append_assoc (waiting e l.next) (first_of cs root l) (goals_in cs root ms a.front.rest))
       ∙ ap (λ gs. gs ++ goals_in cs root ms a.front.rest) (sym chain_is)
 
+  -- those before it waited
+  back_waits : DidWait cs root e.history.bindings ms l.next e.front.waits
+  back_waits =
+      let next : l.next ≤ i = link_next a.clauses.now (goal_of a) ls i l w is good.here.links in
+      waits_first cs root e.history.bindings ms a.front.passed l.next e.front.waits (first_of cs root l) chain_is
+      (subst (λ f. DidWait cs root e.history.bindings ms a.front.passed f.waits) (sym front_is)
+      (waits_linked cs root e.history.bindings ls ms more a.front.passed a.front.waits new good.here.passed
+      (carried (λ cs' root' rs. DidWait cs' root' rs ls a.front.passed a.front.waits) a e s good.here.waits)))
+
   pub taken_back_over : IsSamePlace a (record { clauses = e.clauses; root = e.root; columns = e.columns; history = e.history; front = front })
   taken_back_over =
       let there = link_is a.clauses.now (goal_of a) ls i l w is good.here.links in
@@ -78,6 +88,7 @@ module _ (a e : Engine) (more : List Rest) (s : IsSamePlace a e) (front_is : e.f
       (same_goals e front s.good (goals_back ∙ ap (goals_of cs root ms) (sym front_is)) refl
       (carried (λ cs' root' rs. IsRest cs' root' (length ms) rest) a e s (record { formed = there.formed; from = omega arith; to = omega (arith, some, there.to); next = linked.1; small = omega (arith, some, there.small) }))
       (omega (arith, next, w, size))
+      back_waits
       tt)
 
 -- a goal that was passed over, by its link

@@ -1,7 +1,8 @@
 -- What an engine stands for: the configuration here, and those that it can go back to, the last one first.
-use Rattle.std.specs.Prelude.{◌≡◌, ℕ, ◌<◌, ◌≤◌, List, [], ◌++◌, length, map, reverse, All, Option, Some, None}
+use Rattle.std.specs.Prelude.{◌≡◌, ℕ, suc, ◌<◌, ◌≤◌, List, [], ◌++◌, length, map, take, reverse, All, Option, Some, None}
 use Rattle.std.specs.List.{slice_get}
-use Rattle.pp_algebra.specs.Terms.{Trees, count}
+use Rattle.pp_algebra.specs.Terms.{Trees, count, variables_all}
+use Rattle.pp_algebra.specs.Covers.{IsIn}
 use Rattle.pp_algebra.specs.Rows.{Row, IsRow}
 use Rattle.pp_sld.specs.Goals.{Goal, Config, put_goal, with_goals}
 use Rattle.pp_term.specs.declared.clause.Clause.{Clause}
@@ -11,6 +12,7 @@ use Rattle.pp_walk.specs.Places.{Place}
 use Rattle.pp_resolve.specs.declared.engine.Engine.{Engine}
 use Rattle.pp_resolve.specs.declared.history.Rest.{Rest}
 use Rattle.pp_resolve.specs.declared.history.Front.{Front}
+use Rattle.pp_resolve.specs.declared.history.Waits.{Waits}
 use Rattle.pp_goal.specs.declared.acts.Act.{Act}
 use Rattle.pp_goal.specs.declared.acts.Act.TheVariants.{Wait}
 use Rattle.pp_resolve.specs.Standing.{counted, config_in}
@@ -19,6 +21,10 @@ use Rattle.pp_resolve.specs.Links.{goals_of, goals_in, below, passed, body_of, I
 use Rattle.pp_resolve.specs.Shown.{root_of, IsRoot}
 use Rattle.pp_goal.specs.Acts.{IsReady}
 use Rattle.pp_resolve.specs.Acts.{does, ActsAs}
+
+-- the goal waits in the row, and its variables are below the number
+abbrev pub Waited : Row → ℕ → Goal ℕ → Type 0
+Waited r k g = (does r g ≡ None) × ((v : ℕ) → IsIn v (variables_all g.arguments) → v < k)
 
 module _ (cs : List Clause) (root : Goal ℕ) where
   -- what is done with the goal at a place of a body
@@ -30,18 +36,25 @@ module _ (cs : List Clause) (root : Goal ℕ) where
   IsKnown r ls f None = Unit {0}
   IsKnown r ls f (Some a) = All (λ g. does r g ≡ None) (passed cs root (reverse ls) f.passed) × (f.rest.from < f.rest.to) × LooksAt r f.rest a × (a ≡ Wait → ⊥)
 
+  -- the goals that were passed over waited in a state that is kept
+  pub record DidWait (states : List Row) (ls : List Rest) (n : ℕ) (w : Waits) : Type 0 where
+    pub there : w.since < length states
+    pub below : w.below ≤ count (present (take (suc w.since) states)).columns
+    pub goals : All (Waited (present (take (suc w.since) states)) w.below) (passed cs root (reverse ls) n)
+
 module _ (cs : List Clause) (root : Goal ℕ) (calls : Trees ℕ) where
   abbrev pub config_of : Frame → Config
-  config_of f = config_in f.row (goals_of cs root f.links f.front) calls f.front.depth
+  config_of f = config_in (present f.states) (goals_of cs root f.links f.front) calls f.front.depth
 
   -- a state that a machine can stand in
   pub record Stands (f : Frame) : Type 0 where
-    pub row : IsRow f.row
-    pub over : AreOver f.row (with_goals (goals_of cs root f.links f.front) calls)
+    pub row : IsRow (present f.states)
+    pub over : AreOver (present f.states) (with_goals (goals_of cs root f.links f.front) calls)
     pub rest : IsRest cs root (length f.links) f.front.rest
     pub passed : f.front.passed ≤ length f.links
     pub links : AreLinks cs root (reverse f.links)
-    pub known : IsKnown cs root f.row f.links f.front f.front.selected
+    pub waits : DidWait cs root f.states f.links f.front.passed f.front.waits
+    pub known : IsKnown cs root (present f.states) f.links f.front f.front.selected
 
 abbrev pub goal_of : Engine → Goal ℕ
 goal_of e = root_of e.root

@@ -1,20 +1,19 @@
 -- The states that a machine can go back to, the last one first.
 use Rattle.std.specs.Prelude.{◌≡◌, suc, ◌<◌, ◌≤◌, List, [], ◌∷◌, length, take, reverse, Option, Some, None}
 use Rattle.pp_algebra.specs.Rows.{Row}
-use Rattle.pp_unify.specs.States.{present}
 use Rattle.pp_resolve.specs.declared.history.Rest.{Rest}
 use Rattle.pp_resolve.specs.declared.history.Front.{Front}
 use Rattle.pp_resolve.specs.declared.history.Choice.{Choice}
 use Rattle.pp_resolve.specs.declared.history.History.{History}
 
 pub record Frame : Type 0 where
-  pub row : Row
+  pub states : List Row
   pub links : List Rest
   pub front : Front
 
 abbrev pub frames : List Row → List Rest → List Choice → List Frame
 frames rs ls [] = []
-frames rs ls (c ∷ cs) = record { row = present (take (suc c.mark) rs); links = take c.links ls; front = c.front } ∷ frames (take (suc c.mark) rs) (take c.links ls) cs
+frames rs ls (c ∷ cs) = record { states = take (suc c.mark) rs; links = take c.links ls; front = c.front } ∷ frames (take (suc c.mark) rs) (take c.links ls) cs
 
 -- what a choice keeps is there
 abbrev pub AreThere : List Row → List Rest → List Choice → Type 0
@@ -29,7 +28,7 @@ pub record IsFit (h : History) : Type 0 where
 
 -- the present state
 abbrev pub frame_of : History → Front → Frame
-frame_of h front = record { row = present h.bindings; links = h.links.items; front = front }
+frame_of h front = record { states = h.bindings; links = h.links.items; front = front }
 
 -- the last state is the present one again, or there was none
 abbrev pub IsTaken : History → History → Option Front → Type 0

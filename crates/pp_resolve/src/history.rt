@@ -18,12 +18,20 @@ pub(crate) struct Rest {
     pub(crate) next: u32,
 }
 
-/// What a branch still has to do: the link of the goals that were passed over because they wait, the goals that are
-/// left, and how many calls may follow. Where the first goal that is left is known to be the selected one, it is kept
-/// what is done with it.
+/// The state since which goals are known to wait, and a number above all their variables.
+#[derive(Clone, Copy, Debug, PartialEq, Eq)]
+pub(crate) struct Waits {
+    pub(crate) since: Mark,
+    pub(crate) below: usize,
+}
+
+/// What a branch still has to do: the link of the goals that were passed over because they wait, since when they are
+/// known to, the goals that are left, and how many calls may follow. Where the first goal that is left is known to be
+/// the selected one, it is kept what is done with it.
 #[derive(Clone, Copy, Debug, PartialEq, Eq)]
 pub(crate) struct Front {
     pub(crate) passed: u32,
+    pub(crate) waits: Waits,
     pub(crate) rest: Rest,
     pub(crate) depth: u32,
     pub(crate) selected: Option<Act>,

@@ -1,5 +1,6 @@
 //! The goal that is selected: the leftmost one that doesn't wait.
-ghost use Rattle.std.specs.Prelude.{◌≡◌, ◌≢◌, ◌<◌, ◌≤◌, [], ℕ, suc, Some, length, IfOk, OnOk};
+ghost use Rattle.std.specs.Prelude.{◌≡◌, ◌≢◌, ◌<◌, ◌≤◌, [], ℕ, suc, true, Some, length, IfOk, OnOk};
+ghost use Rattle.pp_algebra.specs.Terms.{count};
 ghost use Rattle.pp_sld.specs.Goals.{Goal};
 ghost use Rattle.pp_unify.specs.Forests.{AreOver, counted_all};
 ghost use Rattle.pp_goal.specs.Arguments.{IsLent};
@@ -9,7 +10,7 @@ ghost use Rattle.pp_resolve.specs.Engines.{goal_of, row_of, waiting, left, DoWai
 ghost use Rattle.pp_goal.specs.declared.acts.Act.TheVariants.{Wait};
 
 use crate::engine::Engine;
-use crate::history::Rest;
+use crate::history::{Rest, Waits};
 use crate::root::goal_at;
 use pp_clause::GoalAt;
 use pp_goal::{Act, act_on};
@@ -73,9 +74,10 @@ impl<'a> Engine<'a> {
     /// Passes over the first goal that is left.
     fn pass(&mut self) -> Result<(), AllocError>
         requires good { IsGood self.old }
+        requires wait { AllWait self.old }
         requires sees { Sees self.old (Some Wait) }
         ensures same { IsSamePlace self.old self.new }
-        ensures wait { OnOk result (AllWait self.old → AllWait self.new) }
+        ensures wait { OnOk result (AllWait self.new) }
         ensures fewer { OnOk result (length (left self.old) ≡ suc (length (left self.new))) }
     {
         let number = self.link(Rest {
@@ -83,9 +85,24 @@ impl<'a> Engine<'a> {
             ..self.front.rest
         })?;
         self.front.passed = number;
+        self.front.waits = Waits {
+            since: self.history.bindings.mark(),
+            below: self.history.bindings.len(),
+        };
         self.front.rest.from += 1;
         self.front.selected = None;
         Ok(())
+    }
+
+    /// Whether all goals that were passed over are known to wait still: no variable that was there when they were
+    /// looked at was bound since, or got its first domain.
+    fn is_still(&self) -> bool
+        requires good { IsGood self.now }
+        ensures wait { result ≡ true → AllWait self.now }
+        ensures below { self.now.front.waits.below ≤ count (row_of self.now).columns }
+    {
+        let waits = self.front.waits;
+        self.history.bindings.is_still(waits.since, waits.below)
     }
 
     /// The link from which on all goals that were passed over still wait: the one before the leftmost that doesn't.
@@ -112,6 +129,7 @@ impl<'a> Engine<'a> {
         requires some { 0 < self.old.front.passed }
         ensures same { IsSamePlace self.old self.new }
         ensures fewer { OnOk result (self.new.front.passed < self.old.front.passed) }
+        ensures waits { self.new.front.waits ≡ self.old.front.waits }
         ensures links { HasMoreLinks self.old self.new }
     {
         let last = self.history.links[self.front.passed as usize - 1];
@@ -128,15 +146,46 @@ impl<'a> Engine<'a> {
     }
 
     /// Puts the goals from the leftmost on that doesn't wait any more back before those that are left.
+    fn unwind_to(&mut self, start: u32) -> Result<(), AllocError>
+        requires good { IsGood self.old }
+        requires within { start ≤ length self.old.history.links.items }
+        requires wait { DoWait (row_of self.old) (waiting self.old start) }
+        ensures same { IsSamePlace self.old self.new }
+        ensures wait { OnOk result (AllWait self.new) }
+        ensures waits { self.new.front.waits ≡ self.old.front.waits }
+    {
+        while self.front.passed > 0 && self.front.passed != start {
+            self.unwind()?;
+        }
+        Ok(())
+    }
+
+    /// Keeps it that the goals that were passed over wait now.
+    fn keep_waits(&mut self)
+        requires good { IsGood self.old }
+        requires wait { AllWait self.old }
+        requires below { self.old.front.waits.below ≤ count (row_of self.old).columns }
+        ensures same { IsSamePlace self.old self.new }
+        ensures wait { AllWait self.new }
+    {
+        self.front.waits.since = self.history.bindings.mark();
+    }
+
+    /// Puts the goals from the leftmost on that doesn't wait any more back before those that are left. No goal is
+    /// looked at where none can have changed.
     fn unwind_ready(&mut self) -> Result<(), AllocError>
         requires good { IsGood self.old }
         ensures same { IsSamePlace self.old self.new }
         ensures wait { OnOk result (AllWait self.new) }
     {
-        let start = self.still_waiting();
-        while self.front.passed > 0 && self.front.passed != start {
-            self.unwind()?;
+        if self.front.passed == 0 {
+            return Ok(());
         }
+        if !self.is_still() {
+            let start = self.still_waiting();
+            self.unwind_to(start)?;
+        }
+        self.keep_waits();
         Ok(())
     }
 

@@ -13,7 +13,7 @@ ghost use Rattle.pp_resolve.specs.Shown.{IsNamed};
 ghost use Rattle.pp_resolve.specs.Engines.{place_of, IsGood};
 
 use crate::engine::Engine;
-use crate::history::{Front, History, Rest};
+use crate::history::{Front, History, Rest, Waits};
 use crate::root::Root;
 use pp_clause::Clauses;
 use pp_domain::Domain;
@@ -75,6 +75,7 @@ impl<'a> Engine<'a> {
         let cells = cells_of(alloc, face.columns())?;
         let columns = face.call()?;
         let predicate = predicate_of(clauses, shape);
+        let since = bindings.mark();
         Ok(Engine {
             clauses,
             root: Root {
@@ -86,6 +87,7 @@ impl<'a> Engine<'a> {
             history: History::new(alloc, bindings),
             front: Front {
                 passed: 0,
+                waits: Waits { since, below: 0 },
                 rest: Rest {
                     body: None,
                     from: 0,

@@ -18,7 +18,7 @@ use Rattle.pp_language.specs.Words.{Word, word, word_of, is_name_kind, atom_of, 
 use Rattle.pp_language.specs.Phrases as phrases
 use Rattle.pp_language.specs.Phrases.{Phrase, integer_phrase, variable_phrase, said, Phrases, no_phrases, phrase_and, phrase_words, group_words, more_phrase_words, is_phrase, are_phrases}
 use Rattle.pp_language.specs.Statements.{clause, is_head, Says}
-use Rattle.pp_language.specs.Keys.{Key, named_first, numbered}
+use Rattle.pp_language.specs.Keys.{Key, numbered}
 use Rattle.pp_language.specs.Meanings.{keyed_all, keys_in, clause_by}
 use Rattle.pp_language.specs.Printing.{name_at, term_text}
 use Rattle.pp_roundtrip.specs.Laws.{AreNames, IsOver, AreOver, IsReadAsFact, ReadAsFact}
@@ -158,7 +158,7 @@ module _ (names : List Text) (f m : ℕ) (ts : Trees ℕ) (known : AreNames name
   name_is = ap (place same_text names) atom.value ∙ place-at names f known.1 over.0
 
   abbrev fact : ℕ → ℕ → Trees Key → Predicate × Clause
-  fact g k us = (record { name = g; arity = k }, record { head = numbered (named_first (keys_in (us ∷ []))) us; body = [] })
+  fact g k us = (record { name = g; arity = k }, record { head = numbered (keys_in (us ∷ [])) us; body = [] })
 
   writes : clause_by names (phrase_of names t) [] ≡ (record { name = f; arity = count ts }, record { head = ts; body = [] })
   writes =

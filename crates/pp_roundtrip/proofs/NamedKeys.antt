@@ -1,44 +1,21 @@
 -- Variables by their names are numbered as they were.
-use Rattle.std.proofs.Common.{◌≡◌, ℕ, zero, suc, ◌+◌, ◌^◌, ◌<◌, ◌≤◌, true, false, not, cond, List, [], ◌∷◌, ◌++◌, map, length, Option, Some, None, refl, ap, sym, ◌∙◌, subst, arith, append-nil}
-use Rattle.std.specs.Prelude.{filter}
-use Rattle.std.specs.List.{flat_map, list_all}
-use Rattle.std.proofs.lemmas.Bool.{and_from, and_parts, false_from_ne_true, or_from}
-use Rattle.std.proofs.lemmas.List.Folds.{list_all-append}
-use Rattle.pp_algebra.specs.Terms.{variable, Trees, variables, variables_all}
+use Rattle.std.proofs.Common.{◌≡◌, ℕ, zero, suc, ◌+◌, ◌^◌, ◌<◌, ◌≤◌, true, false, List, [], ◌∷◌, map, length, Option, Some, None, refl, ap, sym, ◌∙◌, subst, arith, append-nil}
+use Rattle.std.proofs.lemmas.Bool.{false_from_ne_true, or_from}
+use Rattle.pp_algebra.specs.Terms.{variable, Trees, variables_all}
 use Rattle.pp_algebra.specs.Rows.{Domain, IsNumbered, Pattern, Row}
 use Rattle.pp_algebra.specs.Covers.{IsIn}
 use Rattle.pp_algebra.specs.Canon.{has, firsts, canon, Distinct}
 use Rattle.pp_algebra.proofs.Antisym.{put_all-agree, occurs}
 use Rattle.pp_algebra.proofs.CanonLemmas.{at, name}
 use Rattle.pp_algebra.proofs.OneCanon.{one_canon}
-use Rattle.pp_algebra.proofs.Order.{variables_all-put_all}
 use Rattle.pp_language.specs.Texts.{Text}
-use Rattle.pp_language.specs.Keys.{Key, named, unnamed, same_key, is_named, named_first, numbered}
+use Rattle.pp_language.specs.Keys.{Key, named, same_key, numbered}
 use Rattle.pp_language.specs.Meanings.{keys_in}
 use Rattle.pp_language.specs.Printing.{variable_text}
 use Rattle.pp_roundtrip.proofs.Phrased.{by_name_all}
 use Rattle.pp_roundtrip.proofs.ReadBack.{own_names}
 use Rattle.pp_language.proofs.SameKeys.{same_key-is, same_key-IsSame}
 use Rattle.pp_algebra.proofs.Numbered.{numbered_below}
-
--- ===== named ones stand first as they stand
-
-named_stay : (ks : List Key) → list_all is_named ks ≡ true → (filter is_named ks ≡ ks) × (filter (λ k. not (is_named k)) ks ≡ [])
-named_stay [] h = (refl, refl)
-named_stay (named x ∷ ks) h = let r = named_stay ks h in (ap (λ hs. named x ∷ hs) r.0, r.1)
-named_stay (unnamed i ∷ ks) h = absurd (cc)
-
-named_first-same : (ks : List Key) → list_all is_named ks ≡ true → named_first ks ≡ ks
-named_first-same ks h = let r = named_stay ks h in ap (λ hs. hs ++ filter (λ k. not (is_named k)) ks) r.0 ∙ ap (λ hs. ks ++ hs) r.1 ∙ append-nil ks
-
-firsts-named : (seen ks : List Key) → list_all is_named seen ≡ true → list_all is_named ks ≡ true → list_all is_named (firsts same_key seen ks) ≡ true
-firsts-named seen [] h g = h
-firsts-named seen (k ∷ ks) h g =
-    let p = and_parts (is_named k) (list_all is_named ks) g in
-    elim (has same_key seen k) as (λ b. list_all is_named (cond b (firsts same_key seen ks) (firsts same_key (seen ++ k ∷ []) ks)) ≡ true) [
-      | true ↦ firsts-named seen ks h p.1
-      | false ↦ firsts-named (seen ++ k ∷ []) ks (list_all-append is_named seen (k ∷ []) ∙ and_from (list_all is_named seen) _ h (and_from (is_named k) true p.0 refl)) p.1
-    ]
 
 -- ===== the keys of numbers
 
@@ -94,10 +71,6 @@ anys_length : (m : ℕ) → length (anys m) ≡ m
 anys_length zero = refl
 anys_length (suc m) = omega (arith, anys_length m)
 
-all_named : (vs : List ℕ) → list_all is_named (flat_map (λ v. variables (variable (key v))) vs) ≡ true
-all_named [] = refl
-all_named (v ∷ vs) = all_named vs
-
 module _ (ts : Trees ℕ) (m : ℕ) (canonical : IsNumbered 0 (variables_all ts) m) (small : (v : ℕ) → IsIn v (variables_all ts) → v < 10 ^ 64) where
   are_below : AreBelow 0 m
   are_below v low high = small v (occurs (variables_all ts) 0 m v canonical low (omega (arith, high)))
@@ -119,13 +92,8 @@ module _ (ts : Trees ℕ) (m : ℕ) (canonical : IsNumbered 0 (variables_all ts)
       (anys_are 0 m)
       (anys_length m ∙ sym (keys_length 0 m))
 
-  keys_named : list_all is_named (variables_all (by_name_all ts)) ≡ true
-  keys_named = ap (list_all is_named) (variables_all-put_all (λ v. variable (key v)) ts) ∙ all_named (variables_all ts)
-
   -- the numbers of the variables by first occurrence of their names are their own
-  pub numbered-back : numbered (named_first (keys_in (by_name_all ts ∷ []))) (by_name_all ts) ≡ ts
+  pub numbered-back : numbered (keys_in (by_name_all ts ∷ [])) (by_name_all ts) ≡ ts
   numbered-back =
-      let e : variables_all (by_name_all ts) ++ [] ≡ variables_all (by_name_all ts) = append-nil (variables_all (by_name_all ts)) in
-      ap (λ ks. numbered (named_first (firsts same_key [] ks)) (by_name_all ts)) e
-      ∙ ap (λ ks. numbered ks (by_name_all ts)) (named_first-same (firsts same_key [] (variables_all (by_name_all ts))) (firsts-named [] (variables_all (by_name_all ts)) refl keys_named))
+      ap (λ ks. numbered (firsts same_key [] ks) (by_name_all ts)) (append-nil (variables_all (by_name_all ts)))
       ∙ sym (ap (λ r. r.columns) row_is)

@@ -1,8 +1,7 @@
 -- What a search of a work finds is right.
-use Rattle.std.proofs.Common.{◌≡◌, ℕ, true, get_or, All, List, [], ◌∷◌, map, Option, Result, Ok, Err, refl, ap, sym, ◌∙◌, subst}
+use Rattle.std.proofs.Common.{◌≡◌, ℕ, true, get_or, All, List, [], ◌∷◌, map, Option, refl, ap, sym, ◌∙◌, subst}
 use Rattle.std.proofs.Math.Logic.{∥∥₁_elim, ∥∥₁_map}
 use Rattle.std.specs.Coded.{Coded-set}
-use Rattle.std.specs.Prelude.{IfOk}
 use Rattle.pp_algebra.specs.Rows.{Row}
 use Rattle.pp_algebra.specs.Numbered.{call}
 use Rattle.pp_sld.specs.Goals.{Program, Shape, Config}
@@ -95,7 +94,3 @@ still_over clauses r own new p q ks js over e stays = ∥∥₁_map over (λ o. 
 
 pub later_tests : (rest : List (Option (List Level))) (task : Option (List Level)) → All (λ w. IsLater (work_by w) (work_by task)) rest → All (λ w. is_later (work_by w) (work_by task) ≡ true) rest
 later_tests rest task h = λ k d lt. is_later_too (work_by (get_or rest k d)) (work_by task) (h k d lt)
-
-pub map_ok : {A E : Type 0} {P Q : A → Type 0} (r : Result A E) → ((a : A) → P a → Q a) → IfOk r P → IfOk r Q
-map_ok (Ok a) f p = f a p
-map_ok (Err e) f p = tt

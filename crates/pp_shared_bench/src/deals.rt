@@ -1,5 +1,5 @@
 //! Offers, takes and steals at one hand.
-ghost use Rattle.std.specs.Prelude.{◌≤◌};
+ghost use Rattle.std.specs.Prelude.{◌≡◌, ◌≤◌, IfOk};
 
 use pp_deal::{Hand, Peek, Stolen, hands};
 use std::alloc::{AllocError, Global};
@@ -20,15 +20,14 @@ fn peeks(alloc: Global, hand: &mut Hand<u64>, count: u32) -> Result<Vec<Peek<u64
 }
 
 /// Offers and takes so often; the result is how often both were done.
-fn offer_and_take(mut hand: Hand<u64>, times: u32) -> u64 {
-    let mut done = 0u64;
-    for _ in 0..times {
-        if hand.offer(done).is_ok() {
-            done = done.wrapping_add(1);
-        }
+fn offer_and_take(mut hand: Hand<u64>, times: u32) -> Result<u32, AllocError>
+    ensures { IfOk result (λ done. done ≡ times) }
+{
+    for item in 0..times {
+        hand.offer(u64::from(item)).map_err(|_| AllocError)?;
         hand.take();
     }
-    done
+    Ok(times)
 }
 
 /// Tries so many steals.
@@ -61,46 +60,50 @@ pub fn offers<R: Threads + Sync>(
     alloc: Global,
     threads: u32,
     times: u32,
-) -> Result<u64, AllocError>
+) -> Result<u32, AllocError>
     requires { 1 ≤ threads }
+    ensures { IfOk result (λ done. done ≡ times) }
 {
     let mut hand = one_hand(alloc)?;
     let peeks = peeks(alloc, &mut hand, threads - 1)?;
     let (done, stolen) = thread::join(
         rt,
-        move || offer_and_take(hand, times),
+        move || -> Result<u32, AllocError>
+            ensures { IfOk result (λ done. done ≡ times) }
+        { offer_and_take(hand, times) },
         move || thread::map_vec(rt, peeks, &|peek: Peek<u64>| steal_often(peek, times)),
     );
     stolen?;
-    Ok(done)
+    done
 }
 
-/// A hand with so many items, and how many were offered.
-fn filled(alloc: Global, times: u32) -> Result<(Hand<u64>, u64), AllocError> {
-    let mut hand = one_hand(alloc)?;
-    let mut offered = 0u64;
-    for _ in 0..times {
-        if hand.offer(offered).is_ok() {
-            offered = offered.wrapping_add(1);
-        }
+/// Offers so many items; the result is how many there were.
+fn fill(hand: &mut Hand<u64>, times: u32) -> Result<u32, AllocError>
+    ensures { IfOk result (λ offered. offered ≡ times) }
+{
+    for item in 0..times {
+        hand.offer(u64::from(item)).map_err(|_| AllocError)?;
     }
-    Ok((hand, offered))
+    Ok(times)
 }
 
 /// How many items are offered to a hand that nobody takes from.
-pub fn fills(alloc: Global, times: u32) -> Result<u64, AllocError> {
-    let (_hand, offered) = filled(alloc, times)?;
-    Ok(offered)
+pub fn fills(alloc: Global, times: u32) -> Result<u32, AllocError>
+    ensures { IfOk result (λ offered. offered ≡ times) }
+{
+    let mut hand = one_hand(alloc)?;
+    fill(&mut hand, times)
 }
 
 /// How many items so many threads steal from a hand that has so many.
-pub fn steals<R: Threads + Sync>(
+pub(crate) fn steals<R: Threads + Sync>(
     rt: &R,
     alloc: Global,
     threads: u32,
     times: u32,
 ) -> Result<u64, AllocError> {
-    let (mut hand, _) = filled(alloc, times)?;
+    let mut hand = one_hand(alloc)?;
+    fill(&mut hand, times)?;
     let peeks = peeks(alloc, &mut hand, threads)?;
     let counts = thread::map_vec(rt, peeks, &|peek: Peek<u64>| steal_out(peek))?;
     let mut all = 0u64;

@@ -40,7 +40,7 @@ pub enum Act {
 }
 
 /// What one of so many threads counts, each of which loads or raises the stop word so many times.
-pub fn counted<R: Threads + Sync>(
+pub(crate) fn counted<R: Threads + Sync>(
     rt: &R,
     alloc: Global,
     threads: u32,

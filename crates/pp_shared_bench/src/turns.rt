@@ -66,7 +66,7 @@ fn at_rest(
 }
 
 /// How many turns so many threads take, each so many.
-pub fn turns<R: Threads + Wait + Sync>(
+pub(crate) fn turns<R: Threads + Wait + Sync>(
     rt: &R,
     alloc: Global,
     threads: u32,

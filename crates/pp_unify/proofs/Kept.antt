@@ -21,14 +21,14 @@ present-states (e ∷ es) st = present-last (states es (before e st)) (row_at (e
 pub present-states_of : (s : State) → present (states_of s) ≡ row_at (entries_of s) (store_of s)
 present-states_of s = present-states (entries_of s) (store_of s)
 
-length-states : (es : List Entry) (st : Store) → length (states es st) ≡ suc (length es)
+pub length-states : (es : List Entry) (st : Store) → length (states es st) ≡ suc (length es)
 length-states [] st = refl
 length-states (e ∷ es) st = length-append (states es (before e st)) (row_at (e ∷ es) st ∷ []) ∙ omega (arith, length-states es (before e st))
 
 pub length-states_of : (s : State) → length (states_of s) ≡ suc (length s.trail.items)
 length-states_of s = length-states (entries_of s) (store_of s) ∙ ap suc (length-reverse s.trail.items)
 
-longer : (later es : List Entry) (st : Store) → IsLonger (states es (undone later st)) (states (later ++ es) st)
+pub longer : (later es : List Entry) (st : Store) → IsLonger (states es (undone later st)) (states (later ++ es) st)
 longer [] es st = ([], sym (append-nil (states es st)))
 longer (e ∷ later) es st =
     let r = longer later es (before e st) in

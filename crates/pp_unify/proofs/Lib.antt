@@ -29,3 +29,5 @@ pub mod HeadSteps
 pub mod Stepping
 pub mod Walking
 pub mod FirstCells
+pub mod Unseen
+pub mod StillTops

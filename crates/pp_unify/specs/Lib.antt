@@ -9,3 +9,4 @@ pub mod Heads
 pub mod Forests
 pub mod Joining
 pub mod Taking
+pub mod Still

@@ -1,5 +1,5 @@
 //! Bindings, as a caller sees them.
-ghost use Rattle.std.specs.Prelude.{◌≡◌, ℕ, suc, ◌<◌, [], ◌∷◌, length, take, IfOk, All, option_map};
+ghost use Rattle.std.specs.Prelude.{◌≡◌, ℕ, suc, ◌<◌, ◌≤◌, true, false, [], ◌∷◌, length, take, IfOk, All, option_map};
 ghost use Rattle.pp_algebra.specs.Rows.{IsWide, IsRow};
 ghost use Rattle.pp_algebra.specs.Solve.{equation, membership};
 ghost use Rattle.pp_algebra.specs.Terms.{int, count, variables_all};
@@ -14,9 +14,10 @@ ghost use Rattle.pp_row.specs.Columns.{set_by};
 ghost use Rattle.pp_row.specs.Givens.{given_of};
 ghost use Rattle.pp_unify.specs.States.{no_columns, present, value_in, in_place, IsOver, with_new, with_many, with_value, IsLonger, IsSolvedBy, domain_in, row_in, first_cell};
 ghost use Rattle.pp_algebra.specs.Numbered.{counted_from};
+ghost use Rattle.pp_unify.specs.Still.{AreStill};
 
 use crate::pair::Scratch;
-use crate::{join, terms, unify};
+use crate::{join, still, terms, unify};
 use indexmap::IndexSet;
 use pp_domain::Domain;
 use pp_heap::{Span, State, Value};
@@ -284,6 +285,19 @@ impl Bindings {
         ensures { self.new ≡ take (suc mark) self.old }
     {
         self.state.undo(mark.place);
+    }
+
+    /// Whether the variables below a number are known to be what they were in a state that was marked: each the same
+    /// integer, free or not, with a finite domain or none. What it answers false for may be the same, too: a variable
+    /// was bound, or got its first domain. It costs the changes since the mark.
+    pub fn is_still(&self, mark: Mark, below: usize) -> bool
+        requires kept { mark < length self.now }
+        requires below { below ≤ count (present (take (suc mark) self.now)).columns }
+        ensures still { result ≡ true → AreStill below (present (take (suc mark) self.now)) (present self.now) }
+        ensures changed { result ≡ false → suc mark < length self.now }
+        ensures there { below ≤ count (present self.now).columns }
+    {
+        still::is_still(&self.state, mark.place, below)
     }
 
     /// What the top of a term is.

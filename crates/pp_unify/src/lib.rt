@@ -6,6 +6,7 @@ mod head;
 mod join;
 mod laws;
 mod pair;
+mod still;
 mod terms;
 mod unify;
 mod writing;

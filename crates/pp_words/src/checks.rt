@@ -1,47 +1,17 @@
-// Entries made into a command.
-ghost use Rattle.std.specs.Prelude.{◌≡◌, Some, count_by, option_to_list};
-ghost use Rattle.std.specs.List.{list_all};
-ghost use Rattle.pp_language.specs.Commands.{greatest_value, default_value, has_setting, has_trace, values, given, trace_count, numbers, is_allowed};
-ghost use Rattle.pp_language.proofs.CommandsRead.{kind_by, checked};
-ghost use Rattle.pp_words.specs.Entries.{entry_of, setting_of, entries_of, Gives, only, at_most_one, settings_once, is_trace};
+// The texts that are kept under each name, made into a command.
+ghost use Rattle.std.specs.Prelude.{◌≡◌, option_map};
+ghost use Rattle.std.specs.Option.{option_to_list};
+ghost use Rattle.clap.specs.Words.{rows_of, found_of};
+ghost use Rattle.pp_language.specs.Commands.{has_trace};
+ghost use Rattle.pp_language.proofs.CommandsRead.{kind_by};
+ghost use Rattle.pp_line.specs.Kept.{kept, texts_of, single, is_value, value_read, trace_read, kind_read, settings_read, command_read};
+ghost use Rattle.pp_words.specs.Settings.{setting_of};
 
-use crate::entry::{Entry, Setting};
-use crate::words::WordsError;
-use pp_language::{
-    AHEAD_LIMIT, Command, CommandKind, DEFAULT_AHEAD, DEFAULT_DEPTH, DEFAULT_TURNS,
-    DEFAULT_WORKERS, DEPTH_LIMIT, MAKE_LIMIT, Settings, TURN_LIMIT, WORKER_LIMIT, is_same,
-};
-
-fn greatest_value(setting: Setting) -> u64
-    ensures { result ≡ greatest_value (setting_of setting) }
-{
-    match setting {
-        Setting::Workers => u64::from(WORKER_LIMIT),
-        Setting::Ahead => u64::from(AHEAD_LIMIT),
-        Setting::Depth => u64::from(DEPTH_LIMIT),
-        Setting::Turns => TURN_LIMIT,
-    }
-}
-
-fn default_value(setting: Setting) -> u32
-    ensures { result ≡ default_value (setting_of setting) }
-{
-    match setting {
-        Setting::Workers => DEFAULT_WORKERS,
-        Setting::Ahead => DEFAULT_AHEAD,
-        Setting::Depth => DEFAULT_DEPTH,
-        Setting::Turns => DEFAULT_TURNS as u32,
-    }
-}
-
-fn has_setting(kind: CommandKind, setting: Setting) -> bool
-    ensures { result ≡ has_setting kind (setting_of setting) }
-{
-    !matches!(
-        (kind, setting),
-        (CommandKind::Alone, Setting::Workers | Setting::Ahead)
-    )
-}
+use crate::number::number;
+use crate::setting::{Setting, default_value, greatest_value, has_setting};
+use clap::ArgMatches;
+use pp_language::{Command, CommandKind, MAKE_LIMIT, Settings, is_same};
+use pp_line::kept;
 
 fn has_trace(kind: CommandKind) -> bool
     ensures { result ≡ has_trace kind }
@@ -49,71 +19,56 @@ fn has_trace(kind: CommandKind) -> bool
     !matches!(kind, CommandKind::Make(_))
 }
 
-/// Whether the command takes the entry, and its number is within the limit.
-fn is_allowed(kind: CommandKind, entry: Entry) -> bool
-    ensures { result ≡ is_allowed kind (entry_of entry) }
+/// Whether the command has the setting, and the value is within its limit.
+fn is_value(kind: CommandKind, setting: Setting, value: u32) -> bool
+    ensures { result ≡ is_value kind (setting_of setting) value }
 {
-    match entry {
-        Entry::Value(setting, value) => {
-            has_setting(kind, setting) && value >= 1 && u64::from(value) <= greatest_value(setting)
-        }
-        Entry::Trace => has_trace(kind),
-        Entry::Number(value) => value >= 1 && value <= MAKE_LIMIT,
-    }
+    has_setting(kind, setting) && value >= 1 && u64::from(value) <= greatest_value(setting)
 }
 
-fn are_allowed(kind: CommandKind, entries: &[Entry]) -> bool
-    ensures { result ≡ list_all (λ e. is_allowed kind (entry_of e)) entries.now }
+/// The only text, if there is one; `None` where there are more.
+fn single<'a>(texts: Option<&[&'a str]>) -> Option<Option<&'a str>>
+    ensures { option_map (option_map (λ t. t.now)) result ≡ single (texts_of texts.entry) }
 {
-    entries.iter().all(|entry| is_allowed(kind, *entry))
+    let Some(texts) = texts else {
+        return Some(None);
+    };
+    match texts {
+        [] => Some(None),
+        [text] => Some(Some(*text)),
+        _ => None,
+    }
 }
 
 /// The value that a setting is given at most once, or its default.
-fn value(entries: &[Entry], setting: Setting) -> Result<u32, WordsError>
-    ensures { Gives (λ n. n) result (only
-        (default_value (setting_of setting))
-        (values (setting_of setting) (entries_of entries.now))) }
+fn value(kind: CommandKind, setting: Setting, texts: Option<&[&str]>) -> Option<u32>
+    ensures { result ≡ value_read kind (setting_of setting) (texts_of texts.entry) }
 {
-    let mut value = None;
-    for entry in entries {
-        if let Some(given) = entry.value_for(setting) {
-            if value.is_some() {
-                return Err(WordsError::Usage);
-            }
-            value = Some(given);
-        }
+    let given = single(texts)?;
+    let Some(text) = given else {
+        return Some(default_value(setting));
+    };
+    let value = number(text.as_bytes())?;
+    if !is_value(kind, setting, value) {
+        return None;
     }
-    Ok(value.unwrap_or(default_value(setting)))
+    Some(value)
 }
 
-/// How often `--trace` stands among the entries.
-fn trace_count(entries: &[Entry]) -> usize
-    ensures { result ≡ count_by is_trace entries.now }
+/// Whether `--trace` is given, at most once and to a command that takes it.
+fn trace(kind: CommandKind, texts: Option<&[&str]>) -> Option<bool>
+    ensures { result ≡ trace_read kind (texts_of texts.entry) }
 {
-    entries
-        .iter()
-        .filter(|entry| matches!(entry, Entry::Trace))
-        .count()
-}
-
-/// The only number that stands by itself, if there is one.
-pub(crate) fn only_number(entries: &[Entry]) -> Result<Option<u32>, WordsError>
-    ensures { Gives option_to_list result (at_most_one (numbers (entries_of entries.now))) }
-{
-    let mut number = None;
-    for entry in entries {
-        if let Entry::Number(value) = entry {
-            if number.is_some() {
-                return Err(WordsError::Usage);
-            }
-            number = Some(*value);
-        }
+    let traced = single(texts)?;
+    match traced {
+        None => Some(false),
+        Some(_) if has_trace(kind) => Some(true),
+        Some(_) => None,
     }
-    Ok(number)
 }
 
 /// The command of this name, with the number that stands by itself.
-pub(crate) fn kind(name: &[u8], number: Option<u32>) -> Option<CommandKind>
+fn named(name: &[u8], number: Option<u32>) -> Option<CommandKind>
     ensures { result ≡ kind_by name.now (option_to_list number) }
 {
     match number {
@@ -124,30 +79,48 @@ pub(crate) fn kind(name: &[u8], number: Option<u32>) -> Option<CommandKind>
     }
 }
 
-/// The settings that the entries give, each at most once.
-fn settings(entries: &[Entry]) -> Result<Settings, WordsError>
-    ensures { Gives (λ s. s) result (settings_once (entries_of entries.now)) }
+/// The command of this name, with the texts that stand by themselves.
+fn kind(name: &[u8], texts: Option<&[&str]>) -> Option<CommandKind>
+    ensures { result ≡ kind_read name.now (texts_of texts.entry) }
 {
-    Ok(Settings {
-        depth: value(entries, Setting::Depth)?,
-        turns: u64::from(value(entries, Setting::Turns)?),
-        workers: value(entries, Setting::Workers)?,
-        ahead: value(entries, Setting::Ahead)?,
+    let text = single(texts)?;
+    let Some(text) = text else {
+        return named(name, None);
+    };
+    let count = number(text.as_bytes())?;
+    if count >= 1 && count <= MAKE_LIMIT {
+        named(name, Some(count))
+    } else {
+        None
+    }
+}
+
+/// The settings that the kept texts give, each at most once.
+fn settings(kind: CommandKind, matches: &ArgMatches<'_>) -> Option<Settings>
+    ensures { result ≡ settings_read kind (kept (rows_of (found_of matches.now))) }
+{
+    let depth = value(kind, Setting::Depth, kept(matches, "depth"))?;
+    let turns = value(kind, Setting::Turns, kept(matches, "turns"))?;
+    let workers = value(kind, Setting::Workers, kept(matches, "workers"))?;
+    let ahead = value(kind, Setting::Ahead, kept(matches, "ahead"))?;
+    Some(Settings {
+        depth,
+        turns: u64::from(turns),
+        workers,
+        ahead,
     })
 }
 
-/// The command of this kind with these entries, if it takes them, and each at most once.
-pub(crate) fn checked(kind: CommandKind, entries: &[Entry]) -> Result<Command, WordsError>
-    ensures { Gives (λ c. c) result (checked (entries_of entries.now) (Some kind)) }
+/// The command that a name and the kept texts give.
+pub(crate) fn command(name: &[u8], matches: &ArgMatches<'_>) -> Option<Command>
+    ensures { result ≡ command_read name.now (kept (rows_of (found_of matches.now))) }
 {
-    let settings = settings(entries)?;
-    let traces = trace_count(entries);
-    if traces > 1 || !are_allowed(kind, entries) {
-        return Err(WordsError::Usage);
-    }
-    Ok(Command {
+    let kind = kind(name, kept(matches, "number"))?;
+    let settings = settings(kind, matches)?;
+    let trace = trace(kind, kept(matches, "trace"))?;
+    Some(Command {
         kind,
         settings,
-        trace: traces == 1,
+        trace,
     })
 }

@@ -2,9 +2,8 @@
 #![tactic(auto)]
 
 mod checks;
-mod entry;
 mod number;
-mod reading;
+mod setting;
 mod words;
 
 pub use words::{WordsError, read_words};

@@ -1,2 +1,4 @@
+mod Cases
 mod Desks
 mod Peeks
+mod Written

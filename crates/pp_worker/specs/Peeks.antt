@@ -1,6 +1,7 @@
--- The peeks of a desk, one by one.
-use Rattle.std.specs.Prelude.{◌≡◌, List, [], ◌∷◌, map}
-use Rattle.pp_deal.specs.Hands.{IsSamePeek, stolen}
+-- The peeks of a desk, one by one, and where a task comes from.
+use Rattle.std.specs.Prelude.{◌≡◌, ◌⊎◌, List, [], ◌∷◌, ◌++◌, map}
+use Rattle.pp_deal.specs.Hands.{IsSamePeek, stolen, taken}
+use Rattle.pp_deal.specs.declared.hand.Hand.{Hand}
 use Rattle.pp_deal.specs.declared.hand.Peek.{Peek}
 
 module _ {T : Type 0} where
@@ -14,3 +15,15 @@ module _ {T : Type 0} where
   -- none of them stole anything
   abbrev pub StoleNothing : List (Peek T) → List (Peek T) → Type 0
   StoleNothing ps qs = map stolen qs ≡ map stolen ps
+
+  -- one of them stole this item, and the others nothing
+  pub record StoleOne (item : T) (ps qs : List (Peek T)) : Type 0 where
+    pub before : List (List T)
+    pub items : List T
+    pub after : List (List T)
+    pub old : map stolen ps ≡ before ++ items ∷ after
+    pub new : map stolen qs ≡ before ++ (items ++ item ∷ []) ∷ after
+
+  -- the hand took this item and nothing was stolen, or one peek stole it and the hand took nothing
+  abbrev pub WasTaken : T → Hand T → Hand T → List (Peek T) → List (Peek T) → Type 0
+  WasTaken item h k ps qs = ((taken k ≡ taken h ++ item ∷ []) × StoleNothing ps qs) ⊎ ((taken k ≡ taken h) × StoleOne item ps qs)

@@ -1,7 +1,8 @@
 //! What one worker has.
-ghost use Rattle.std.specs.Prelude.{◌≡◌, [], IfOk};
+ghost use Rattle.std.specs.Prelude.{◌≡◌, ◌≤◌, [], IfOk};
 ghost use Rattle.pp_cell.specs.Passes.{IsBelow, pass_space};
 
+use crate::budget::FIRST_BUDGET;
 use crate::explorer::Explorer;
 use pp_cell::Pass;
 use pp_deal::{Hand, Peek};
@@ -19,9 +20,13 @@ pub struct Desk<'a, E: Explorer> {
     pub peeks: Vec<Peek<E::Task>>,
     pub seen: E::Value,
     pub walker: E::Walker,
+    /// How many reductions its next search makes at least before it reports, where the task is of its own hand. It begins
+    /// at 200, doubles with each such search up to 25,600, and is 200 again once a task was stolen.
+    pub budget: u32,
     pub ghost fits: { ∥ E.fits (pass_space pass) seen ∥₁ },
     pub ghost below: { IsBelow pass seen },
     pub ghost belongs: { ∥ E.belongs (pass_space pass) walker ∥₁ },
+    pub ghost some: { 1 ≤ budget },
 }
 
 impl<'a, E: Explorer> Desk<'a, E> {
@@ -52,6 +57,7 @@ impl<'a, E: Explorer> Desk<'a, E> {
             peeks,
             seen,
             walker,
+            budget: FIRST_BUDGET,
         })
     }
 }

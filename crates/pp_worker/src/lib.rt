@@ -1,6 +1,7 @@
 //! Workers of a parallel search: each takes tasks, searches them under what it saw, reports, and offers what is left.
 #![tactic(auto)]
 
+mod budget;
 mod desk;
 mod explorer;
 mod found;

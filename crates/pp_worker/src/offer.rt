@@ -1,6 +1,6 @@
 //! A worker offers what is left of a task.
 ghost use Rattle.std.specs.Prelude.{◌≡◌, ◌++◌, OnOk};
-ghost use Rattle.pp_deal.specs.Hands.{SameHand, offered};
+ghost use Rattle.pp_deal.specs.Hands.{SameHand, offered, taken};
 ghost use Rattle.pp_worker.specs.Turns.{offers_if};
 
 use pp_cell::Accepted;
@@ -9,7 +9,7 @@ use std::alloc::AllocError;
 
 /// Offers all of them, in order.
 fn offer_all<T: Drop>(hand: &mut Hand<T>, mut tasks: Vec<T>) -> Result<(), AllocError>
-    ensures hand { SameHand hand.old hand.new }
+    ensures hand { SameHand hand.old hand.new × (taken hand.new ≡ taken hand.old) }
     ensures offered { OnOk result (offered hand.new ≡ offered hand.old ++ tasks.items) }
 {
     while !tasks.is_empty() {
@@ -26,7 +26,7 @@ pub(crate) fn offer_if_taken<T: Drop>(
     accepted: Accepted,
     rest: Vec<T>,
 ) -> Result<(), AllocError>
-    ensures hand { SameHand hand.old hand.new }
+    ensures hand { SameHand hand.old hand.new × (taken hand.new ≡ taken hand.old) }
     ensures offered { OnOk result (offered hand.new ≡ offered hand.old ++ offers_if accepted rest.items) }
 {
     match accepted {

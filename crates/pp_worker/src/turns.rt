@@ -12,7 +12,7 @@ use crate::gate::{Gate, Point};
 use crate::offer::offer_if_taken;
 use crate::report::{look_if_settled, send};
 use crate::search::{Explored, explore};
-use crate::take::next_task;
+use crate::take::{Next, next_task};
 use crate::turned::Turned;
 use pp_cell::Cell;
 use pp_stop::{Stop, StopSeat, Up};
@@ -33,18 +33,18 @@ pub(crate) fn serve<'a, E: Explorer, G: Gate, R: Wait>(
     requires cell { IsPassOf cell.now desk.old.pass }
     requires seat { IsSeatOf stop.now desk.old.seat }
     ensures pass { SamePass desk.old.pass desk.new.pass }
-    ensures turned { IfOk result (λ turned. MatchTurned turned (HasReported desk.old.pass desk.old.hand desk.new.pass desk.new.hand) ⊥ ((is_drained desk.new.hand ≡ true) × (desk.new.pass ≡ desk.old.pass) × IsUntouched desk.old.hand desk.new.hand desk.old.peeks.items desk.new.peeks.items)) }
+    ensures turned { IfOk result (λ turned. MatchTurned turned (HasReported desk.old desk.new) ⊥ ((is_drained desk.new.hand ≡ true) × IsUntouched desk.old desk.new)) }
     ensures seat { IsSeatOf stop.now desk.new.seat }
     ensures late { has_seen desk.old.seat ≡ false → late desk.new.seat ≡ late desk.old.seat }
     ensures hand { SameHand desk.old.hand desk.new.hand }
     ensures peeks { AreSamePeeks desk.old.peeks.items desk.new.peeks.items }
 {
-    let Some(task) = next_task(&mut desk.hand, &mut desk.peeks) else {
+    let Some(Next { task, is_own }) = next_task(&mut desk.hand, &mut desk.peeks) else {
         gate.pass(desk.worker, Point::Idle);
         return Ok(Turned::Idle);
     };
     gate.pass(desk.worker, Point::Taken);
-    let Explored { report, offers } = explore(alloc, space, stop, desk, task)?;
+    let Explored { report, offers } = explore(alloc, space, stop, desk, task, is_own)?;
     let accepted = send(rt, cell, desk, report)?;
     gate.pass(desk.worker, Point::Reported);
     offer_if_taken(&mut desk.hand, accepted, offers)?;
@@ -82,8 +82,8 @@ pub fn turn<'a, E: Explorer, G: Gate, R: Wait>(
     requires cell { IsPassOf cell.now desk.old.pass }
     requires seat { IsSeatOf stop.now desk.old.seat }
     ensures pass { SamePass desk.old.pass desk.new.pass }
-    ensures turned { IfOk result (λ turned. MatchTurned turned (HasReported desk.old.pass desk.old.hand desk.new.pass desk.new.hand) (has_seen desk.new.seat ≡ true) (is_drained desk.new.hand ≡ true)) }
-    ensures untouched { IfOk result (λ turned. MatchTurned turned (Unit {0}) ((desk.new.pass ≡ desk.old.pass) × IsUntouched desk.old.hand desk.new.hand desk.old.peeks.items desk.new.peeks.items) ((desk.new.pass ≡ desk.old.pass) × IsUntouched desk.old.hand desk.new.hand desk.old.peeks.items desk.new.peeks.items)) }
+    ensures turned { IfOk result (λ turned. MatchTurned turned (HasReported desk.old desk.new) (has_seen desk.new.seat ≡ true) (is_drained desk.new.hand ≡ true)) }
+    ensures untouched { IfOk result (λ turned. MatchTurned turned (Unit {0}) (IsUntouched desk.old desk.new) (IsUntouched desk.old desk.new)) }
     ensures seat { IsSeatOf stop.now desk.new.seat }
     ensures late { has_seen desk.old.seat ≡ false → late desk.new.seat ≡ late desk.old.seat }
     ensures hand { SameHand desk.old.hand desk.new.hand }

@@ -1,14 +1,15 @@
 //! A worker works until the search is over.
-ghost use Rattle.std.specs.Prelude.{◌≡◌, true, IfOk, IfSome, OnErr, OnOk};
+ghost use Rattle.std.specs.Prelude.{◌≡◌, ◌++◌, ℕ, suc, true, IfOk, OnErr, OnOk};
 ghost use Rattle.pp_deal.specs.Hands.{SameHand};
-ghost use Rattle.pp_stop.specs.Seats.{IsSeatOf, saw_dry};
-ghost use Rattle.pp_cell.specs.Passes.{IsPassOf, SamePass, is_over, pass_number, pass_root, pass_space, pass_value};
+ghost use Rattle.pp_stop.specs.Seats.{IsSeatOf, saw_dry, saw_settled};
+ghost use Rattle.pp_cell.specs.Passes.{IsPassOf, SamePass, is_over, own_entries, pass_number, pass_root, pass_space, pass_value};
 ghost use Rattle.pp_worker.specs.Peeks.{AreSamePeeks};
-ghost use Rattle.pp_worker.specs.Turns.{EndsLooking};
+ghost use Rattle.pp_worker.specs.Turns.{HasTurned, HasWorked, looks};
 
 use crate::desk::Desk;
 use crate::explorer::Explorer;
 use crate::gate::Gate;
+use crate::report::look;
 use crate::turned::Turned;
 use crate::turns::serve;
 use crossbeam_utils::Backoff;
@@ -18,7 +19,7 @@ use pp_stop::{Stop, Up};
 use std::alloc::{AllocError, Global};
 use std::sync::Wait;
 
-/// One turn, or a look where the search was seen to be settled. After an idle turn the worker pauses.
+/// One turn, unless the stop word is up; whether the search was seen to be settled. After an idle turn the worker pauses.
 fn step<'a, E: Explorer, G: Gate, R: Wait>(
     rt: &R,
     alloc: Global,
@@ -28,16 +29,13 @@ fn step<'a, E: Explorer, G: Gate, R: Wait>(
     desk: &mut Desk<'a, E>,
     gate: &G,
     pause: &Backoff,
-) -> Result<Option<Settled<'a, E>>, AllocError>
+) -> Result<bool, AllocError>
     requires space { space.now ≡ pass_space desk.old.pass }
     requires cell { IsPassOf cell.now desk.old.pass }
     requires seat { IsSeatOf stop.now desk.old.seat }
     ensures pass { SamePass desk.old.pass desk.new.pass }
-    ensures looked { IfOk result (λ o. IfSome o (λ s. EndsLooking (pass_number desk.old.pass) desk.new.pass)) }
-    ensures over { IfOk result (λ o. IfSome o (λ s. is_over desk.new.pass ≡ true)) }
-    ensures space { IfOk result (λ o. IfSome o (λ s. s.space.now ≡ pass_space desk.old.pass)) }
-    ensures root { IfOk result (λ o. IfSome o (λ s. s.root ≡ pass_root desk.old.pass)) }
-    ensures value { IfOk result (λ o. IfSome o (λ s. s.value ≡ pass_value desk.new.pass)) }
+    ensures own { OnOk result (HasTurned desk.old.pass desk.new.pass) }
+    ensures settled { IfOk result (λ is_settled. is_settled ≡ true → saw_settled desk.new.seat ≡ true) }
     ensures seat { IsSeatOf stop.now desk.new.seat }
     ensures hand { SameHand desk.old.hand desk.new.hand }
     ensures peeks { AreSamePeeks desk.old.peeks.items desk.new.peeks.items }
@@ -48,14 +46,96 @@ fn step<'a, E: Explorer, G: Gate, R: Wait>(
             Turned::Worked => pause.reset(),
             Turned::Stopped => {}
         },
-        Up::Settled => return cell.look(rt, &mut desk.pass),
+        Up::Settled => return Ok(true),
         Up::Dry => return Err(AllocError),
     }
-    Ok(None)
+    Ok(false)
 }
 
-/// Turns until a look of its own shows that the search is over. On want of memory the dry bit is raised, and where it was
-/// seen there is want of memory.
+/// Turns until the search was seen to be settled.
+fn turn_until_settled<'a, E: Explorer, G: Gate, R: Wait>(
+    rt: &R,
+    alloc: Global,
+    space: &E,
+    cell: &Cell<'a, E>,
+    stop: &Stop,
+    desk: &mut Desk<'a, E>,
+    gate: &G,
+) -> Result<(), AllocError>
+    requires space { space.now ≡ pass_space desk.old.pass }
+    requires cell { IsPassOf cell.now desk.old.pass }
+    requires seat { IsSeatOf stop.now desk.old.seat }
+    ensures pass { SamePass desk.old.pass desk.new.pass }
+    ensures own { OnOk result (HasTurned desk.old.pass desk.new.pass) }
+    ensures settled { OnOk result (saw_settled desk.new.seat ≡ true) }
+    ensures seat { IsSeatOf stop.now desk.new.seat }
+    ensures hand { SameHand desk.old.hand desk.new.hand }
+    ensures peeks { AreSamePeeks desk.old.peeks.items desk.new.peeks.items }
+{
+    let pause = Backoff::new();
+    for _ in rt.forever() {
+        if step(rt, alloc, space, cell, stop, desk, gate, &pause)? {
+            return Ok(());
+        }
+    }
+    unreachable!()
+}
+
+/// Looks until a look shows that the search is over.
+fn look_until_over<'a, E: Explorer, R: Wait>(
+    rt: &R,
+    cell: &Cell<'a, E>,
+    desk: &mut Desk<'a, E>,
+) -> Result<Settled<'a, E>, AllocError>
+    requires cell { IsPassOf cell.now desk.old.pass }
+    ensures pass { SamePass desk.old.pass desk.new.pass }
+    ensures own { OnOk result ((more : ℕ) × (own_entries desk.new.pass ≡ own_entries desk.old.pass ++ looks (pass_number desk.old.pass) (suc more))) }
+    ensures over { OnOk result (is_over desk.new.pass ≡ true) }
+    ensures space { IfOk result (λ s. s.space.now ≡ pass_space desk.old.pass) }
+    ensures root { IfOk result (λ s. s.root ≡ pass_root desk.old.pass) }
+    ensures value { IfOk result (λ s. s.value ≡ pass_value desk.new.pass) }
+    ensures seat { desk.new.seat ≡ desk.old.seat }
+    ensures hand { desk.new.hand ≡ desk.old.hand }
+    ensures peeks { desk.new.peeks ≡ desk.old.peeks }
+{
+    for _ in rt.forever() {
+        if let Some(settled) = look(rt, cell, desk)? {
+            return Ok(settled);
+        }
+    }
+    unreachable!()
+}
+
+/// Turns until the search was seen to be settled, and looks then.
+fn turn_and_look<'a, E: Explorer, G: Gate, R: Wait>(
+    rt: &R,
+    alloc: Global,
+    space: &E,
+    cell: &Cell<'a, E>,
+    stop: &Stop,
+    desk: &mut Desk<'a, E>,
+    gate: &G,
+) -> Result<Settled<'a, E>, AllocError>
+    requires space { space.now ≡ pass_space desk.old.pass }
+    requires cell { IsPassOf cell.now desk.old.pass }
+    requires seat { IsSeatOf stop.now desk.old.seat }
+    ensures pass { SamePass desk.old.pass desk.new.pass }
+    ensures own { OnOk result (HasWorked desk.old.pass desk.new.pass) }
+    ensures over { OnOk result (is_over desk.new.pass ≡ true) }
+    ensures space { IfOk result (λ s. s.space.now ≡ pass_space desk.old.pass) }
+    ensures root { IfOk result (λ s. s.root ≡ pass_root desk.old.pass) }
+    ensures value { IfOk result (λ s. s.value ≡ pass_value desk.new.pass) }
+    ensures settled { OnOk result (saw_settled desk.new.seat ≡ true) }
+    ensures seat { IsSeatOf stop.now desk.new.seat }
+    ensures hand { SameHand desk.old.hand desk.new.hand }
+    ensures peeks { AreSamePeeks desk.old.peeks.items desk.new.peeks.items }
+{
+    turn_until_settled(rt, alloc, space, cell, stop, desk, gate)?;
+    look_until_over(rt, cell, desk)
+}
+
+/// Turns until it saw that the search is settled, and then looks until a look shows that it is over. On want of memory the
+/// dry bit is raised, and where that bit alone was seen there is want of memory.
 pub fn work<'a, E: Explorer, G: Gate, R: Wait>(
     rt: &R,
     alloc: Global,
@@ -69,26 +149,22 @@ pub fn work<'a, E: Explorer, G: Gate, R: Wait>(
     requires cell { IsPassOf cell.now desk.old.pass }
     requires seat { IsSeatOf stop.now desk.old.seat }
     ensures pass { SamePass desk.old.pass desk.new.pass }
-    ensures looked { OnOk result (EndsLooking (pass_number desk.old.pass) desk.new.pass) }
+    ensures own { OnOk result (HasWorked desk.old.pass desk.new.pass) }
     ensures over { OnOk result (is_over desk.new.pass ≡ true) }
     ensures space { IfOk result (λ s. s.space.now ≡ pass_space desk.old.pass) }
     ensures root { IfOk result (λ s. s.root ≡ pass_root desk.old.pass) }
     ensures value { IfOk result (λ s. s.value ≡ pass_value desk.new.pass) }
+    ensures settled { OnOk result (saw_settled desk.new.seat ≡ true) }
     ensures dry { OnErr result (saw_dry desk.new.seat ≡ true) }
     ensures seat { IsSeatOf stop.now desk.new.seat }
     ensures hand { SameHand desk.old.hand desk.new.hand }
     ensures peeks { AreSamePeeks desk.old.peeks.items desk.new.peeks.items }
 {
-    let pause = Backoff::new();
-    for _ in rt.forever() {
-        match step(rt, alloc, space, cell, stop, desk, gate, &pause) {
-            Ok(Some(settled)) => return Ok(settled),
-            Ok(None) => {}
-            Err(_) => {
-                stop.raise_dry(&mut desk.seat);
-                return Err(AllocError);
-            }
+    match turn_and_look(rt, alloc, space, cell, stop, desk, gate) {
+        Ok(settled) => Ok(settled),
+        Err(_) => {
+            stop.raise_dry(&mut desk.seat);
+            Err(AllocError)
         }
     }
-    unreachable!()
 }

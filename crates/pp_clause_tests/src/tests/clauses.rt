@@ -4,7 +4,7 @@ ghost use Rattle.pp_term.specs.WellFormed.{IsClause};
 
 use pp_clause::{Clauses, First, Kind};
 use pp_read::{Program, read};
-use pp_term::{Cell, Pred};
+use pp_term::{Cell, Clause, Goal, Pred, Term};
 use pp_tests::Test;
 use std::alloc::Global;
 use std::process::Abort;
@@ -28,6 +28,21 @@ fn table(rt: &impl Abort, alloc: Global, program: &Program) -> Clauses
             .expect(rt, "memory");
     }
     table
+}
+
+/// The place that each of its clauses is given, added one after another.
+fn places(rt: &impl Abort, alloc: Global, program: &Program) -> Vec<u32>
+    requires { All IsClause program.now.clauses }
+{
+    let mut table = Clauses::new(alloc);
+    let mut places = Vec::new(alloc);
+    for clause in program.clauses.as_slice() {
+        let place = table
+            .add(clause.copy().expect(rt, "memory"))
+            .expect(rt, "memory");
+        places.push(place).expect(rt, "memory");
+    }
+    places
 }
 
 /// The number of a name of the text.
@@ -66,14 +81,14 @@ fn a_first_argument_leaves_out_other_tops(rt: HostRuntime) {
     expect_candidates(&rt, &table, p, First::Free, &[0, 1, 2, 3]);
 }
 
-/// The facts `p(0).` to `p(65533).` with `p(X).` in between, and a query.
-fn many_facts(rt: &impl Abort, alloc: Global) -> Vec<u8> {
+/// The facts `p(0).` and so on, so many, with a sentence behind `p(50000).`, and a query.
+fn many_facts(rt: &impl Abort, alloc: Global, count: u32, sentence: &[u8]) -> Vec<u8> {
     let mut text = Vec::new(alloc);
-    for number in 0..65_534 {
+    for number in 0..count {
         let fact = format!(in alloc; "p({number}). ").expect(rt, "memory");
         text.extend_from_slice(fact.as_bytes()).expect(rt, "memory");
         if number == 50_000 {
-            text.extend_from_slice(b"p(X). ").expect(rt, "memory");
+            text.extend_from_slice(sentence).expect(rt, "memory");
         }
     }
     text.extend_from_slice(b"?- p(X) infers most.")
@@ -82,8 +97,23 @@ fn many_facts(rt: &impl Abort, alloc: Global) -> Vec<u8> {
 }
 
 #[test]
-fn one_of_65535_facts_is_found(rt: HostRuntime) {
-    let program = program(&rt, rt.alloc(), &many_facts(&rt, rt.alloc()));
+fn an_integer_among_65535_has_one_place(rt: HostRuntime) {
+    let text = many_facts(&rt, rt.alloc(), 65_535, b"");
+    let program = program(&rt, rt.alloc(), &text);
+    let table = table(&rt, rt.alloc(), &program);
+    let p = Pred {
+        name: name(&rt, &program, b"p"),
+        arity: 1,
+    };
+    assert_eq!(rt; table.count(p), 65_535);
+    expect_candidates(&rt, &table, p, First::Int(60_000), &[60_000]);
+    expect_candidates(&rt, &table, p, First::Int(65_535), &[]);
+}
+
+#[test]
+fn a_variable_among_65535_facts_is_given_to_all(rt: HostRuntime) {
+    let text = many_facts(&rt, rt.alloc(), 65_534, b"p(X). ");
+    let program = program(&rt, rt.alloc(), &text);
     let table = table(&rt, rt.alloc(), &program);
     let p = Pred {
         name: name(&rt, &program, b"p"),
@@ -137,4 +167,128 @@ fn goals_are_lent_as_they_were_written(rt: HostRuntime) {
     assert_eq!(rt; table.variables(0), 2);
     assert_eq!(rt; table.head(0).len(), 3);
     assert_eq!(rt; table.head(0).last().copied(), Some(Cell::Var(1)));
+}
+
+const MIXED: &[u8] = b"p(a). q(1). p(2). q(X) :- p(X). p(3). ?- p(X) infers most.";
+
+#[test]
+fn a_clause_is_added_behind_those_of_its_predicate(rt: HostRuntime) {
+    let program = program(&rt, rt.alloc(), MIXED);
+    let places = places(&rt, rt.alloc(), &program);
+    assert_eq!(rt; places.as_slice(), [0, 0, 1, 1, 2].as_slice());
+}
+
+/// The number of the clause at a place of its predicate, and the first cell of its head.
+fn found(rt: &impl Abort, table: &Clauses, pred: Pred, place: u32) -> (u32, Option<Cell>) {
+    assert!(rt; place < table.count(pred));
+    let number = table.number(table.predicate(pred), place);
+    let head = table.get(pred, place).head.as_slice();
+    let cell = head
+        .first()
+        .and_then(|term: &Term| term.cells().first().copied());
+    (number, cell)
+}
+
+/// The predicate's clauses have these numbers and first cells, in order, and there are no others.
+fn expect_clauses(rt: &impl Abort, table: &Clauses, pred: Pred, wanted: &[(u32, Cell)]) {
+    assert_eq!(rt; table.count(pred) as usize, wanted.len());
+    for (place, (number, cell)) in wanted.iter().enumerate() {
+        let place = u32::try_from(place).expect(rt, "few clauses");
+        assert_eq!(rt; found(rt, table, pred, place), (*number, Some(*cell)));
+    }
+}
+
+/// These are the clauses of both predicates of the text above.
+fn expect_mixed(rt: &impl Abort, program: &Program, table: &Clauses) {
+    let a = name(rt, program, b"a");
+    let p = Pred {
+        name: name(rt, program, b"p"),
+        arity: 1,
+    };
+    let q = Pred {
+        name: name(rt, program, b"q"),
+        arity: 1,
+    };
+    expect_clauses(
+        rt,
+        table,
+        p,
+        &[(0, Cell::Atom(a)), (2, Cell::Int(2)), (4, Cell::Int(3))],
+    );
+    expect_clauses(rt, table, q, &[(1, Cell::Int(1)), (3, Cell::Var(0))]);
+}
+
+#[test]
+fn a_clause_is_found_by_its_place(rt: HostRuntime) {
+    let program = program(&rt, rt.alloc(), MIXED);
+    let table = table(&rt, rt.alloc(), &program);
+    expect_mixed(&rt, &program, &table);
+}
+
+#[test]
+fn a_copy_has_the_same_clauses(rt: HostRuntime) {
+    let program = program(&rt, rt.alloc(), MIXED);
+    let copy = table(&rt, rt.alloc(), &program)
+        .copy()
+        .expect(&rt, "memory");
+    expect_mixed(&rt, &program, &copy);
+}
+
+/// The clause at a place of its predicate, with the numbers of its variables counted from this one.
+fn fresh(rt: &impl Abort, table: &Clauses, pred: Pred, place: u32, from: u32) -> Clause {
+    assert!(rt; place < table.count(pred));
+    let vars = table.get(pred, place).vars;
+    assert!(rt; u64::from(from) + u64::from(vars) <= u64::from(u32::MAX));
+    table.fresh(pred, place, from).expect(rt, "memory")
+}
+
+/// Puts the cells of terms behind others.
+fn push(rt: &impl Abort, cells: &mut Vec<Cell>, terms: &[Term]) {
+    for term in terms {
+        cells.extend_from_slice(term.cells()).expect(rt, "memory");
+    }
+}
+
+/// Puts the cells of a goal behind others.
+fn push_goal(rt: &impl Abort, cells: &mut Vec<Cell>, goal: &Goal) {
+    match goal {
+        Goal::Call(_, arguments) => push(rt, cells, arguments.as_slice()),
+        Goal::Equate(left, right) | Goal::Compare(_, left, right) => {
+            cells.extend_from_slice(left.cells()).expect(rt, "memory");
+            cells.extend_from_slice(right.cells()).expect(rt, "memory");
+        }
+        Goal::Member(term, _) => cells.extend_from_slice(term.cells()).expect(rt, "memory"),
+    }
+}
+
+/// The cells of the clause's head and body.
+fn cells_of(rt: &impl Abort, alloc: Global, clause: &Clause) -> Vec<Cell> {
+    let mut cells = Vec::new(alloc);
+    push(rt, &mut cells, clause.head.as_slice());
+    for goal in clause.body.as_slice() {
+        push_goal(rt, &mut cells, goal);
+    }
+    cells
+}
+
+#[test]
+fn the_variables_of_a_fresh_clause_are_counted_from_a_number(rt: HostRuntime) {
+    let program = program(
+        &rt,
+        rt.alloc(),
+        b"q(X,g(Y)) :- r(Y), X #< Y, Y = X, X :: 1..3, plus(X,Y,2). r(a). ?- q(X,Y) infers most.",
+    );
+    let table = table(&rt, rt.alloc(), &program);
+    let q = Pred {
+        name: name(&rt, &program, b"q"),
+        arity: 2,
+    };
+    let g = Cell::Compound(name(&rt, &program, b"g"), 1);
+    let (x, y) = (Cell::Var(40), Cell::Var(41));
+    let fresh = fresh(&rt, &table, q, 0, 40);
+    assert_eq!(rt; fresh.vars, 42);
+    assert_eq!(rt;
+        cells_of(&rt, rt.alloc(), &fresh).as_slice(),
+        [x, g, y, y, x, y, y, x, x, x, y, Cell::Int(2)].as_slice()
+    );
 }

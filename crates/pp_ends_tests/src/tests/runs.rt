@@ -1,7 +1,7 @@
 //! The top call over ends in memory, some of which fail.
 ghost use Rattle.std.specs.Prelude.{◌≤◌, Some, []};
 
-use super::only;
+use super::{only, words_of};
 use pp_io::{Failed, MemorySink, MemorySource, Sink, Source, SteadySink, SteadySource};
 use pp_run::{Status, alone, propia};
 use pp_watch::Watcher;
@@ -12,16 +12,6 @@ use std::process::Abort;
 const EQUAL: &str = "eq(a,a). eq(b,b). ?- eq(X,Y) infers most.";
 
 const ANSWER: &[u8] = b"X = _0\nY = _0\nyes\n";
-
-/// A command line of these words.
-fn words_of(rt: &impl Abort, alloc: Global, words: &[&str]) -> Vec<String> {
-    let mut texts = Vec::new(alloc);
-    for word in words {
-        let text = String::from_str(alloc, word).expect(rt, "memory");
-        texts.push(text).expect(rt, "memory");
-    }
-    texts
-}
 
 /// The status of the command `alone`.
 fn status_of(

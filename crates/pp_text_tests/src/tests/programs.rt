@@ -25,11 +25,12 @@ fn a_text_writes_its_clauses_and_its_query(rt: HostRuntime) {
             b":- lib(fd). p(f(1,1)). 'p'(f(-02,Y)) :- Y #=< 3, q. ?- X :: [0..1, 7], p(X) infers unique.",
             b"p f(1,1) (0)\np f(-2,_0); _0 #=< 3; q (1)\n?-; _0 :: [0..1, 7]; p _0 unique (1) 'X'",
         ),
-        // Named variables come first.
+        // A clause's variables are numbered by first occurrence.
         (
             b"p(_,B,_,f(_A,B)). ?- X = 1.",
-            b"p _2 _0 _3 f(_1,_0) (4)\n?-; _0 = 1 (1) 'X'",
+            b"p _0 _1 _2 f(_3,_1) (4)\n?-; _0 = 1 (1) 'X'",
         ),
+        // Of a query the named ones come first.
         (
             b"?- p(_,_B,_,A,_B) infers consistent, q(_,A) infers most.",
             b"?-; p _2 _0 _3 _1 _0 consistent; q _4 _1 most (5) '_B' 'A'",

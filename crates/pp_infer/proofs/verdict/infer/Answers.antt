@@ -1,7 +1,8 @@
 use Rattle.std.proofs.Common.{◌∙◌}
 use Rattle.pp_term.specs.Meanings.{mode_of}
 use Rattle.pp_find.specs.Meanings.{finding_by}
-use Rattle.pp_infer.proofs.Found.{map_ok, all_under, is_verdict}
+use Rattle.pp_explore.proofs.Standing.{map_ok}
+use Rattle.pp_infer.proofs.Found.{all_under, is_verdict}
 use Rattle.pp_infer.proofs.verdict.infer.Goals as goal
 
 pub gather-requires-clause-under : goal.gather-requires-clause-under

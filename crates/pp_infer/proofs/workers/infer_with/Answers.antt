@@ -1,5 +1,6 @@
 use Rattle.pp_term.specs.Meanings.{mode_of, program, shape_of}
-use Rattle.pp_infer.proofs.Found.{map_ok, whole_verdict}
+use Rattle.pp_explore.proofs.Standing.{map_ok}
+use Rattle.pp_infer.proofs.Found.{whole_verdict}
 use Rattle.pp_infer.proofs.workers.infer_with.Goals as goal
 
 pub returns : goal.returns

@@ -1,5 +1,7 @@
-use Rattle.std.proofs.Common.{◌+◌, length, ap, ◌∙◌}
+use Rattle.std.proofs.Common.{◌+◌, length, ap, sym, ◌∙◌, subst}
+use Rattle.pp_read.specs.declared.sentence.Said.TheVariants.{Clause}
 use Rattle.pp_read.specs.Passed.{query_passed}
+use Rattle.pp_read.specs.Sentences.{IsMade}
 use Rattle.pp_read.proofs.Ready.{clause_fits, clause_is_made, clause_is_over, query_fits, query_is_made, query_is_over}
 use Rattle.pp_read.proofs.sentence.make.Goals as goal
 
@@ -21,12 +23,13 @@ pub returns-in-Some : goal.returns-in-Some
 returns-in-Some c =
     λ r. clause_is_over c.args.names.now c.args.variables.now.named c.args.variables.now.blanks c.args.parts.now c.args.layout c.in-Clause.entries c.args.clauses c.in-Clause.is r c.in-Some.which c.in-Some.ensures
 
-pub returns-in_ok-clause-in-None : goal.returns-in_ok-clause-in-None
-returns-in_ok-clause-in-None c =
+pub returns-in_ok-renumbered-in-None : goal.returns-in_ok-renumbered-in-None
+returns-in_ok-renumbered-in-None c =
     λ r.
     let v = c.args.variables.now in
-    let e = c.in_ok-clause-in-None.ensures in
-    clause_is_made c.args.names.now v.named v.blanks c.args.parts.now c.args.layout c.in-Clause.entries c.args.clauses c.in-Clause.is r c.in_ok-clause-in-None.field-0 c.in-None.ensures e.pred e.head e.body (e.vars ∙ ap (λ n. n + v.blanks) c.len.ensures.len)
+    let e = c.in_ok-written-in-None.ensures in
+    subst (λ x. IsMade c.args.names.now c.args.clauses r.statement (Clause x)) (sym c.in_ok-renumbered-in-None.ensures)
+    (clause_is_made c.args.names.now v.named v.blanks c.args.parts.now c.args.layout c.in-Clause.entries c.args.clauses c.in-Clause.is r c.in_ok-written-in-None.written c.in-None.ensures e.pred e.head e.body (e.vars ∙ ap (λ n. n + v.blanks) c.len.ensures.len))
 
 pub returns-in-Some-query_limit : goal.returns-in-Some-query_limit
 returns-in-Some-query_limit c =

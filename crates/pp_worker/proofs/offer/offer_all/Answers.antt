@@ -12,6 +12,7 @@ loop-hand-preserved g c =
     let more : offered c.offer.new.self ≡ offered c.loop-hand.hand ++ t ∷ [] = search rules in
     record {
       hand = record { deque = c.offer.ensures.hand.0.deque ∙ inv.hand.deque; peeks = c.offer.ensures.hand.0.peeks ∙ inv.hand.peeks };
+      taken = c.offer.ensures.hand.1 ∙ inv.taken;
       offered = ap (λ l. offered c.offer.new.self ++ l) c.remove.ensures.items ∙ (ap (λ l. l ++ remove c.loop-hand.tasks.items 0) more ∙ (append_assoc (offered c.loop-hand.hand) (t ∷ []) (remove c.loop-hand.tasks.items 0) ∙ (ap (λ l. offered c.loop-hand.hand ++ l) (sym first) ∙ inv.offered)));
     }
 

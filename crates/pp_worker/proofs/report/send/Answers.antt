@@ -13,6 +13,7 @@ invariant_of-desk g c =
       fits = subst (λ x. ∥ g.E.Lattice.fits x d.seen ∥₁) (sym space) d.fits;
       below = still_below g.E.Lattice.fits g.E.Lattice.joined law.associative (pass_space d.pass) (pass_space q) d.seen (pass_value d.pass) (pass_value q) space d.fits d.pass.fits q.fits d.below c.report.ensures.grows;
       belongs = subst (λ x. ∥ g.E.Explorer.belongs x d.walker ∥₁) (sym space) d.belongs;
+      some = d.some;
     }
 
 pub invariant_of-desk-2 : goal.invariant_of-desk-2
@@ -26,4 +27,5 @@ invariant_of-desk-2 g c =
       fits = subst (λ v. ∥ g.E.Lattice.fits (pass_space q) v ∥₁) (sym is) q.fits;
       below = ap (λ v. g.E.Lattice.joined (pass_space q) v (pass_value q)) is ∙ law.idempotent (pass_space q) (pass_value q) q.fits;
       belongs = subst (λ x. ∥ g.E.Explorer.belongs x d.walker ∥₁) (sym space) d.belongs;
+      some = d.some;
     }

@@ -29,10 +29,10 @@ pub overflow_sub-self : goal.overflow_sub-self
 overflow_sub-self c = let d = left_depth c.args.self.now c.requires.good c.requires.wait c.args.predicate c.requires.sees c.args.place c.requires.choice in let z = d.1 in omega (arith, z)
 
 pub returns-then-entered-clause-ready : goal.returns-then-entered-clause-ready
-returns-then-entered-clause-ready c = let e = c.args.self.now in kept_longer c.args.self.now c.enter.new.bindings (let f : Front = record { passed = e.front.passed; rest = record { body = Some c.number-number.result; from = 0; to = c.body_len-to.result; first = c.in_ok-first.first; next = c.args.next }; depth = e.front.depth - 1; selected = None } in f) c.requires.good.ready c.enter.ensures.kept
+returns-then-entered-clause-ready c = let e = c.args.self.now in kept_longer c.args.self.now c.enter.new.bindings (let f : Front = record { passed = e.front.passed; waits = e.front.waits; rest = record { body = Some c.number-number.result; from = 0; to = c.body_len-to.result; first = c.in_ok-first.first; next = c.args.next }; depth = e.front.depth - 1; selected = None } in f) c.requires.good.ready c.enter.ensures.kept
 
 pub returns-then-entered-clause-above : goal.returns-then-entered-clause-above
-returns-then-entered-clause-above c = let e = c.args.self.now in above_longer c.args.self.now c.enter.new.bindings (let f : Front = record { passed = e.front.passed; rest = record { body = Some c.number-number.result; from = 0; to = c.body_len-to.result; first = c.in_ok-first.first; next = c.args.next }; depth = e.front.depth - 1; selected = None } in f) c.requires.good.ready c.enter.ensures.kept
+returns-then-entered-clause-above c = let e = c.args.self.now in above_longer c.args.self.now c.enter.new.bindings (let f : Front = record { passed = e.front.passed; waits = e.front.waits; rest = record { body = Some c.number-number.result; from = 0; to = c.body_len-to.result; first = c.in_ok-first.first; next = c.args.next }; depth = e.front.depth - 1; selected = None } in f) c.requires.good.ready c.enter.ensures.kept
 
 pub returns-then-entered-clause-good : goal.returns-then-entered-clause-good
 returns-then-entered-clause-good c t =
@@ -47,7 +47,7 @@ returns-then-entered-clause-took c =
     let first : c.in_ok-first.first ≡ count (row_of e).columns = search rules in
     let small : c.body_len-to.result < 2 ^ 32 = search rules in
     let t = call_takes e c.requires.good c.requires.wait c.args.predicate c.requires.sees c.args.place c.requires.choice c.number-number.result c.number-number.ensures.clause c.goal_at-goal.result c.goal_at-goal.ensures (present c.enter.new.bindings) c.in_ok-entered.entered c.in_ok-entered.ensures.entered c.if-entered.true c.in_ok-first.first c.body_len-to.result c.args.next first c.body_len-to.ensures small c.requires.next in
-    let new : Engine = record { clauses = e.clauses; root = e.root; columns = e.columns; history = record e.history { bindings = c.enter.new.bindings }; front = (let f : Front = record { passed = e.front.passed; rest = record { body = Some c.number-number.result; from = 0; to = c.body_len-to.result; first = c.in_ok-first.first; next = c.args.next }; depth = e.front.depth - 1; selected = None } in f) } in
+    let new : Engine = record { clauses = e.clauses; root = e.root; columns = e.columns; history = record e.history { bindings = c.enter.new.bindings }; front = (let f : Front = record { passed = e.front.passed; waits = e.front.waits; rest = record { body = Some c.number-number.result; from = 0; to = c.body_len-to.result; first = c.in_ok-first.first; next = c.args.next }; depth = e.front.depth - 1; selected = None } in f) } in
     took_true e new c.args.place c.in_ok-entered.entered c.if-entered.true t
 
 pub returns-else-entered-clause-ready : goal.returns-else-entered-clause-ready

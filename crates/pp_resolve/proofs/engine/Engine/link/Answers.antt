@@ -1,6 +1,7 @@
 use Rattle.std.proofs.Common.{[], ◌∷◌, length, refl, ap, ◌∙◌, arith, length-append}
 use Rattle.pp_resolve.specs.Engines.{goal_of, row_of}
 use Rattle.pp_resolve.proofs.Linked.{links_more}
+use Rattle.pp_resolve.proofs.Waits.{waits_linked}
 use Rattle.pp_resolve.proofs.Moving.{same_place, goals_still, known_still}
 use Rattle.pp_resolve.proofs.engine.Engine.link.Goals as goal
 
@@ -19,4 +20,5 @@ returns-clause-same c =
     (record { formed = here.rest.formed; from = here.rest.from; to = here.rest.to; next = omega (arith, here.rest.next, size); small = here.rest.small })
     (omega (arith, here.passed, size))
     (links_more cs root ls h.links.items c.args.rest more c.requires.some c.requires.rest here.links)
+    (waits_linked cs root e.history.bindings ls h.links.items (c.args.rest ∷ []) e.front.passed e.front.waits more here.passed here.waits)
     (known_still cs root (row_of e) ls h.links.items (c.args.rest ∷ []) e.front e.front.selected more here.passed here.known)

@@ -1,6 +1,7 @@
 use Rattle.std.proofs.Common.{◌≡◌, ◌<◌, ◌≤◌, [], ◌∷◌, ◌++◌, length, sym, ap, subst, arith}
 use Rattle.pp_sld.specs.Goals.{put_goal}
 use Rattle.pp_resolve.specs.declared.history.Rest.{Rest}
+use Rattle.pp_resolve.specs.declared.history.Waits.{Waits}
 use Rattle.pp_goal.specs.declared.acts.Act.TheVariants.{Wait}
 use Rattle.pp_resolve.specs.Standing.{counted}
 use Rattle.pp_resolve.specs.Links.{body_of}
@@ -31,10 +32,16 @@ returns-clause-same c =
     let g = goal_there e.clauses.now (goal_of e) (length e.history.links.items) e.front.rest s.good.here.rest w in
     let new = subst (λ x. e.history.links.items ≡ a.history.links.items ++ (let l : Rest = record { body = x.rest.body; from = x.rest.from; to = x.rest.to; first = x.rest.first; next = x.passed } in l) ∷ []) (sym f) c.in_ok-number.ensures.links in
     let p : e.front.passed ≤ length a.history.links.items = subst (λ x. x.passed ≤ length a.history.links.items) (sym f) c.requires.good.here.passed in
-    same_through a e _ s (passed_over e s.good a.history.links.items c.in_ok-number.number w new c.in_ok-number.ensures.number p g.0 g.1)
+    let more = c.link.ensures.more in
+    let old = still_wait a e more.0 a.front.passed s more.1 c.requires.good.here.passed c.requires.wait in
+    let looks = carried (λ cs root rs. slice_get (body_of cs root a.front.rest.body) a.front.rest.from ≡ Some g.0 → ActsAs cs (present rs) (put_goal (counted a.front.rest.first) g.0) Wait) a e s (λ at. (c.requires.sees.1 g.0 at).0) in
+    let it = subst (λ x. slice_get (body_of e.clauses.now (goal_of e) x.rest.body) x.rest.from ≡ Some g.0 → ActsAs e.clauses.now (row_of e) (put_goal (counted x.rest.first) g.0) Wait) (sym f) looks in
+    let waits : Waits = record { since = c.mark.result; below = c.len.result } in
+    let others = subst (λ x. DoWait (row_of e) (waiting e x.passed)) (sym f) old in
+    same_through a e _ s (passed_over e s.good a.history.links.items c.in_ok-number.number w new c.in_ok-number.ensures.number p g.0 g.1 waits c.mark.ensures.place c.len.ensures.count others (it g.1))
 
 pub returns-clause-wait : goal.returns-clause-wait
-returns-clause-wait c h =
+returns-clause-wait c =
     let a = c.args.self.now in
     let e = c.link.new.self in
     let s = c.link.ensures.same in
@@ -44,7 +51,9 @@ returns-clause-wait c h =
     let new = subst (λ x. e.history.links.items ≡ a.history.links.items ++ (let l : Rest = record { body = x.rest.body; from = x.rest.from; to = x.rest.to; first = x.rest.first; next = x.passed } in l) ∷ []) (sym f) c.in_ok-number.ensures.links in
     let p : e.front.passed ≤ length a.history.links.items = subst (λ x. x.passed ≤ length a.history.links.items) (sym f) c.requires.good.here.passed in
     let more = c.link.ensures.more in
-    let old = still_wait a e more.0 a.front.passed s more.1 c.requires.good.here.passed h in
+    let old = still_wait a e more.0 a.front.passed s more.1 c.requires.good.here.passed c.requires.wait in
     let looks = carried (λ cs root rs. slice_get (body_of cs root a.front.rest.body) a.front.rest.from ≡ Some g.0 → ActsAs cs (present rs) (put_goal (counted a.front.rest.first) g.0) Wait) a e s (λ at. (c.requires.sees.1 g.0 at).0) in
     let it = subst (λ x. slice_get (body_of e.clauses.now (goal_of e) x.rest.body) x.rest.from ≡ Some g.0 → ActsAs e.clauses.now (row_of e) (put_goal (counted x.rest.first) g.0) Wait) (sym f) looks in
-    now_wait e s.good a.history.links.items c.in_ok-number.number w new c.in_ok-number.ensures.number p g.0 g.1 (subst (λ x. DoWait (row_of e) (waiting e x.passed)) (sym f) old) (it g.1)
+    let waits : Waits = record { since = c.mark.result; below = c.len.result } in
+    let others = subst (λ x. DoWait (row_of e) (waiting e x.passed)) (sym f) old in
+    now_wait e s.good a.history.links.items c.in_ok-number.number w new c.in_ok-number.ensures.number p g.0 g.1 waits c.mark.ensures.place c.len.ensures.count others (it g.1)

@@ -5,6 +5,7 @@ use Rattle.pp_goal.specs.Arguments.{terms_of}
 use Rattle.pp_goal.specs.Acts.{items}
 use Rattle.pp_resolve.specs.Engines.{goal_of, row_of, place_of, config_of, Stands}
 use Rattle.pp_resolve.proofs.Linked.{stepped_rest}
+use Rattle.pp_resolve.proofs.Waits.{waits_longer}
 use Rattle.pp_resolve.proofs.Saved.{history_longer}
 use Rattle.pp_resolve.proofs.Stepping.{lent, ready, solving_cost, performs, performs_row, performs_over, fails_to}
 use Rattle.pp_resolve.proofs.engine.Engine.perform.Goals as goal
@@ -40,6 +41,7 @@ returns-then-branch-clause-good c =
         rest = stepped_rest e.clauses.now (goal_of e) (length e.history.links.items) e.front.rest here.rest c.requires.sees.0;
         passed = here.passed;
         links = here.links;
+        waits = waits_longer e.clauses.now (goal_of e) e.history.bindings c.solve.new.bindings e.history.links.items e.front.passed e.front.waits c.solve.ensures.kept here.waits;
         known = tt;
       };
     }

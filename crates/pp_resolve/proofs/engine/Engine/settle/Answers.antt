@@ -23,10 +23,10 @@ returns-then-rest-gt0-clause-same c =
     let i = e.front.rest.next - 1 in
     let up : e.front.rest.next ≡ i + 1 = omega (arith, c.if-rest-gt0.true) in
     let w : i < length e.history.links.items = omega (arith, here.rest.next, c.if-rest-gt0.true) in
-    let f : Front = record { passed = e.front.passed; rest = c.index.result.now; depth = e.front.depth; selected = None } in
+    let f : Front = record { passed = e.front.passed; waits = e.front.waits; rest = c.index.result.now; depth = e.front.depth; selected = None } in
     same_goals e f c.requires.good
     (ap (λ gs. passed e.clauses.now (goal_of e) (reverse e.history.links.items) e.front.passed ++ gs) (settled_left e.clauses.now (goal_of e) e.history.links.items e.front.rest c.index.result.now i c.if-rest.true up w c.index.ensures here.links))
-    refl (link_is e.clauses.now (goal_of e) e.history.links.items i c.index.result.now w c.index.ensures here.links) here.passed tt
+    refl (link_is e.clauses.now (goal_of e) e.history.links.items i c.index.result.now w c.index.ensures here.links) here.passed here.waits tt
 
 pub returns-then-rest-gt0-clause-last : goal.returns-then-rest-gt0-clause-last
 returns-then-rest-gt0-clause-last c d =

@@ -1,4 +1,4 @@
-use Rattle.std.proofs.Common.{◌≡◌, reverse, sym, ap, ◌∙◌, subst, All, arith}
+use Rattle.std.proofs.Common.{◌≡◌, suc, ◌++◌, length, take, reverse, sym, ap, ◌∙◌, subst, All, arith}
 use Rattle.std.proofs.lemmas.List.Elements.{All-nil}
 use Rattle.pp_algebra.specs.Terms.{count}
 use Rattle.pp_term.specs.Meanings.{shape_of}
@@ -6,9 +6,11 @@ use Rattle.pp_row.specs.Reading.{forest}
 use Rattle.pp_unify.specs.States.{present}
 use Rattle.pp_resolve.specs.Starting.{free_row}
 use Rattle.pp_resolve.specs.declared.root.Root.{Root}
-use Rattle.pp_resolve.specs.Links.{AreLinks}
+use Rattle.pp_resolve.specs.declared.history.Waits.{Waits}
+use Rattle.pp_resolve.specs.Links.{AreLinks, first_of}
 use Rattle.pp_resolve.specs.Shown.{root_of}
-use Rattle.pp_resolve.specs.Engines.{Stands}
+use Rattle.pp_resolve.specs.Engines.{Stands, Waited}
+use Rattle.pp_resolve.proofs.Linked.{along_zero}
 use Rattle.pp_resolve.proofs.Starts.{begins, begins_row, begins_over}
 use Rattle.pp_resolve.proofs.engine.Engine.start.Goals as goal
 
@@ -22,6 +24,7 @@ returns-clause-good c =
     let free : present h.bindings ≡ free_row face.domains = ap present c.new.ensures.bindings ∙ c.in_ok-bindings.ensures ∙ ap free_row c.domains.ensures.domains in
     let calls = c.in_ok-columns.columns.columns in
     let calls_are = ap (λ r. r.columns) c.in_ok-columns.ensures in
+    let waits : Waits = record { since = c.mark-since.result; below = 0 } in
     let asked : Root = record { shape = c.args.shape; predicate = c.predicate_of-predicate.result; cells = c.in_ok-cells.cells } in
     let stands = Stands cs (root_of asked) calls in
     record {
@@ -31,11 +34,16 @@ returns-clause-good c =
         root = record { named = c.predicate_of-predicate.ensures; whole = c.in_ok-cells.ensures.whole; width = ap count terms ∙ c.requires.arguments };
       };
       here = record {
-        row = begins_row cs face c.columns.ensures.row (shape_of c.args.shape) c.args.depth ts terms h.links.items calls calls_are (present h.bindings) free;
-        over = begins_over cs face c.columns.ensures.row (shape_of c.args.shape) c.args.depth ts terms h.links.items calls calls_are (present h.bindings) free;
+        row = begins_row cs face c.columns.ensures.row (shape_of c.args.shape) c.args.depth waits ts terms h.links.items calls calls_are (present h.bindings) free;
+        over = begins_over cs face c.columns.ensures.row (shape_of c.args.shape) c.args.depth waits ts terms h.links.items calls calls_are (present h.bindings) free;
         rest = record { formed = tt; from = omega arith; to = omega arith; next = omega arith; small = omega arith };
         passed = omega arith;
         links = subst (λ ls. AreLinks cs (root_of asked) (reverse ls)) (sym c.new.ensures.links) tt;
+        waits = record {
+          there = omega (arith, c.mark-since.ensures.place, ap length c.new.ensures.bindings);
+          below = omega arith;
+          goals = subst (All (Waited (present (take (suc c.mark-since.result) h.bindings)) 0)) (sym (along_zero (λ l gs. gs ++ first_of cs (root_of asked) l) (reverse h.links.items))) (All-nil (Waited (present (take (suc c.mark-since.result) h.bindings)) 0));
+        };
         known = tt;
       };
     }
@@ -49,4 +57,5 @@ returns-clause-here c =
     let terms : ts ≡ face.columns = c.in_ok-cells.ensures.terms ∙ c.columns.ensures.columns in
     let free : present h.bindings ≡ free_row face.domains = ap present c.new.ensures.bindings ∙ c.in_ok-bindings.ensures ∙ ap free_row c.domains.ensures.domains in
     let calls_are = ap (λ r. r.columns) c.in_ok-columns.ensures in
-    begins cs face c.columns.ensures.row (shape_of c.args.shape) c.args.depth ts terms h.links.items c.in_ok-columns.columns.columns calls_are (present h.bindings) free
+    let waits : Waits = record { since = c.mark-since.result; below = 0 } in
+    begins cs face c.columns.ensures.row (shape_of c.args.shape) c.args.depth waits ts terms h.links.items c.in_ok-columns.columns.columns calls_are (present h.bindings) free

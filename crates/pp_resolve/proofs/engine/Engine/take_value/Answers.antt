@@ -33,10 +33,10 @@ pub returns-in_err-equal-clause-above : goal.returns-in_err-equal-clause-above
 returns-in_err-equal-clause-above c = above_longer c.args.self.now c.set_first.new.bindings c.args.self.now.front c.requires.good.ready c.set_first.ensures.kept
 
 pub returns-then-equal-clause-ready : goal.returns-then-equal-clause-ready
-returns-then-equal-clause-ready c = let e = c.args.self.now in kept_longer e c.set_first.new.bindings (let f : Front = record { passed = e.front.passed; rest = stepped e.front.rest; depth = e.front.depth; selected = None } in f) c.requires.good.ready c.set_first.ensures.kept
+returns-then-equal-clause-ready c = let e = c.args.self.now in kept_longer e c.set_first.new.bindings (let f : Front = record { passed = e.front.passed; waits = e.front.waits; rest = stepped e.front.rest; depth = e.front.depth; selected = None } in f) c.requires.good.ready c.set_first.ensures.kept
 
 pub returns-then-equal-clause-above : goal.returns-then-equal-clause-above
-returns-then-equal-clause-above c = let e = c.args.self.now in above_longer e c.set_first.new.bindings (let f : Front = record { passed = e.front.passed; rest = stepped e.front.rest; depth = e.front.depth; selected = None } in f) c.requires.good.ready c.set_first.ensures.kept
+returns-then-equal-clause-above c = let e = c.args.self.now in above_longer e c.set_first.new.bindings (let f : Front = record { passed = e.front.passed; waits = e.front.waits; rest = stepped e.front.rest; depth = e.front.depth; selected = None } in f) c.requires.good.ready c.set_first.ensures.kept
 
 pub returns-then-equal-clause-good : goal.returns-then-equal-clause-good
 returns-then-equal-clause-good c t =
@@ -52,7 +52,7 @@ returns-then-equal-clause-took c =
     let e = c.args.self.now in
     let d = c.goal_at-goal.result in
     let q = present c.set_first.new.bindings in
-    let new : Engine = record { clauses = e.clauses; root = e.root; columns = e.columns; history = record e.history { bindings = c.set_first.new.bindings }; front = record { passed = e.front.passed; rest = stepped e.front.rest; depth = e.front.depth; selected = None } } in
+    let new : Engine = record { clauses = e.clauses; root = e.root; columns = e.columns; history = record e.history { bindings = c.set_first.new.bindings }; front = record { passed = e.front.passed; waits = e.front.waits; rest = stepped e.front.rest; depth = e.front.depth; selected = None } } in
     let back = value_back c.split_value-value.result c.split_value-value.ensures.integer in
     let s = subst (λ b. AreDecided (row_of e) (at_place 0 c.split_value-value.result (terms_of d e.front.rest.first)) b q) c.if-equal.true (subst (λ n. AreDecided (row_of e) (at_place 0 n (terms_of d e.front.rest.first)) c.in_ok-equal.equal q) back c.in_ok-equal.ensures.decided) in
     took_true e new c.args.place c.in_ok-equal.equal c.if-equal.true (split_takes e c.requires.good c.requires.wait c.requires.sees d c.goal_at-goal.ensures c.args.place c.requires.choice c.split_value-value.result c.split_value-value.ensures.value q s)

@@ -1,19 +1,18 @@
-use Rattle.std.proofs.Common.{length, ap, ◌∙◌, arith, length-append}
-use Rattle.pp_resolve.proofs.Moving.{same_through, still_wait}
+use Rattle.std.proofs.Common.{sym, subst}
+use Rattle.pp_resolve.specs.Engines.{IsSamePlace}
+use Rattle.pp_resolve.proofs.Moving.{same_through}
 use Rattle.pp_resolve.proofs.Unwinding.{none_wait}
 use Rattle.pp_resolve.proofs.engine.Engine.unwind_ready.Goals as goal
+use Rattle.pp_resolve.proofs.engine.Engine.unwind_ready.Goals.{then-not-is_still+in_ok-unwind_to, else-not-is_still}
 
-pub loop-self-preserved : goal.loop-self-preserved
-loop-self-preserved c =
-    let a = c.loop-self.self in
-    let b = c.unwind.new.self in
-    let more = c.unwind.ensures.links in
-    let size = ap length more.1 ∙ length-append a.history.links.items more.0 in
-    record {
-      same = same_through c.args.self.now a b c.loop-self.invariant.same c.unwind.ensures.same;
-      within = omega (arith, c.loop-self.invariant.within, size);
-      wait = still_wait a b more.0 c.still_waiting-start.result c.unwind.ensures.same more.1 c.loop-self.invariant.within c.loop-self.invariant.wait;
-    }
+pub returns-then-self-eq0-clause-wait : goal.returns-then-self-eq0-clause-wait
+returns-then-self-eq0-clause-wait c = none_wait c.args.self.now c.args.self.now.front.passed c.if-self-eq0.true
 
-pub returns-after-loop-self-clause-wait : goal.returns-after-loop-self-clause-wait
-returns-after-loop-self-clause-wait c = none_wait c.loop-self.self c.loop-self.self.front.passed (omega (arith, c.loop-self-test.false))
+pub returns-clause-same : goal.returns-clause-same
+returns-clause-same c =
+    let a = c.args.self.now in
+    let e = c.if-not-is_still.self in
+    elim c.if-not-is_still.branch [
+      | then-not-is_still+in_ok-unwind_to w ↦ same_through a e c.keep_waits.new.self (subst (IsSamePlace a) (sym w.self-is) w.unwind_to.ensures.same) c.keep_waits.ensures.same
+      | else-not-is_still w ↦ subst (λ x. IsSamePlace x c.keep_waits.new.self) w.self-is c.keep_waits.ensures.same
+    ]

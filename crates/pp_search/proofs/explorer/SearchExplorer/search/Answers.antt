@@ -1,4 +1,5 @@
-use Rattle.pp_search.proofs.Fitting.{map_ok, later_tests}
+use Rattle.pp_explore.proofs.Standing.{map_ok}
+use Rattle.pp_search.proofs.Fitting.{later_tests}
 use Rattle.pp_search.proofs.explorer.SearchExplorer.search.Goals as goal
 
 pub returns-clause-later : goal.returns-clause-later

@@ -1,0 +1,10 @@
+pub mod Steps
+pub mod Sorts
+pub mod Taken
+pub mod Ends
+pub mod Entries
+pub mod Asked
+pub mod Given
+pub mod Open
+pub mod Words
+pub mod Read
