@@ -1,0 +1,3 @@
+pub mod Cells
+pub mod HeightLaws
+pub mod Heights

@@ -1,0 +1,183 @@
+//! A cell with two passes, entry by entry.
+ghost use Rattle.std.specs.Prelude.{◌≡◌, ◌≤◌, ◌<◌, ◌+◌, ◌∷◌, [], All, IfSome, max, vec_len};
+ghost use Rattle.pp_core.specs.Worths.{IsFit};
+ghost use Rattle.pp_cell.specs.Passes.{IsPassOf, pass_space};
+ghost use Rattle.pp_worker_tests.specs.Cells.{HasPasses};
+ghost use Rattle.pp_worker_tests.specs.Heights.{between, greatest};
+
+use super::heights::{Heights, Span, height};
+use super::searching::halves;
+use pp_cell::{Accepted, Act, Answered, Cell, Entry, Pass, Report, ReportOf};
+use pp_core::Tasks;
+use std::alloc::Global;
+use std::sync::Wait;
+
+/// A cell for the search of a span, and so many passes.
+pub fn cell_of<'a>(
+    alloc: Global,
+    space: &'a Heights,
+    root: Span,
+    count: u32,
+) -> Option<(Cell<'a, Heights>, Vec<Pass<'a, Heights>>)>
+    requires { (1 ≤ count) × (count ≤ 65) }
+    ensures count { IfSome result (λ t. HasPasses t.0 count × (vec_len t.1 ≡ count)) }
+    ensures passes { IfSome result (λ t. All (λ p. IsPassOf t.0 p × (space.now ≡ pass_space p)) t.1.items) }
+{
+    let Ok((cell, passes)) = Cell::new(alloc, space, root, count) else {
+        return None;
+    };
+    Some((cell, passes))
+}
+
+/// The journal, for whoever has all passes back in the order of their numbers.
+pub fn journal_of<'a>(
+    cell: Cell<'a, Heights>,
+    passes: Vec<Pass<'a, Heights>>,
+    count: u32,
+) -> Option<Vec<Entry<Heights>>>
+    requires some { 1 ≤ count }
+    requires count { HasPasses cell count }
+    requires passes { All (λ p. IsPassOf cell p) passes.items }
+{
+    if passes.len() != count as usize {
+        return None;
+    }
+    for i in 0..passes.len() {
+        if passes[i].number() as usize != i {
+            return None;
+        }
+    }
+    Some(cell.journal(passes))
+}
+
+/// The greatest of so many heights.
+fn greatest_of(low: u32, count: u32) -> u32
+    requires { low + count < 4294967296 }
+    ensures { result ≡ greatest low count }
+{
+    let mut top = 0;
+    for done in 0..count {
+        top = top.max(height(low + done));
+    }
+    top
+}
+
+/// A report of the span whose halves are left, or whose greatest height was found.
+fn report_of(alloc: Global, span: Span, is_found: bool) -> Option<Report<Heights>>
+    ensures fit { IfSome result (λ r. IsFit (λ t. between t.low t.high) max (λ _. Unit {0}) r) }
+    ensures under { IfSome result (λ r. r.under ≡ 0) }
+{
+    let (found, rest) = if is_found {
+        let count = span.high.saturating_sub(span.low);
+        (greatest_of(span.low, count), Vec::new(alloc))
+    } else {
+        (0, halves(alloc, span.low, span.high).ok()?)
+    };
+    Some(ReportOf {
+        task: span,
+        rest: Tasks::from_vec(rest),
+        found,
+        under: 0,
+    })
+}
+
+/// What is answered to a report of the span, and the value then.
+fn told<'a, R: Wait>(
+    rt: &R,
+    alloc: Global,
+    cell: &Cell<'a, Heights>,
+    pass: &mut Pass<'a, Heights>,
+    span: Span,
+    is_found: bool,
+) -> Option<(Accepted, u32)>
+    requires { IsPassOf cell.now pass.old }
+    ensures { IsPassOf cell.now pass.new }
+{
+    let report = report_of(alloc, span, is_found)?;
+    let Answered { accepted, seen } = cell.report(rt, pass, report).ok()?;
+    Some((accepted, seen))
+}
+
+/// The outcome that a look shows.
+fn shown<'a, R: Wait>(
+    rt: &R,
+    cell: &Cell<'a, Heights>,
+    pass: &mut Pass<'a, Heights>,
+) -> Option<Option<u32>>
+    requires { IsPassOf cell.now pass.old }
+    ensures { IsPassOf cell.now pass.new }
+{
+    match cell.look(rt, pass).ok()? {
+        Some(settled) => Some(Some(settled.outcome().ok()?)),
+        None => Some(None),
+    }
+}
+
+/// What an entry is of.
+#[derive(Clone, Copy, Debug, PartialEq, Eq)]
+pub enum Kind {
+    Reported,
+    Stale,
+    Looked,
+}
+
+/// Whose entry it is, and of what kind.
+fn said(entry: &Entry<Heights>) -> (u32, Kind) {
+    let kind = match &entry.act {
+        Act::Reported(_) => Kind::Reported,
+        Act::Stale(_) => Kind::Stale,
+        Act::Looked => Kind::Looked,
+    };
+    (entry.seat, kind)
+}
+
+const LEFT: Span = Span { low: 0, high: 5 };
+
+const RIGHT: Span = Span { low: 5, high: 10 };
+
+/// What two passes are told of the search of ten numbers, and the journal.
+fn two_passes<R: Wait>(
+    rt: &R,
+    alloc: Global,
+) -> Option<([(Accepted, u32); 4], [Option<u32>; 2], Vec<Entry<Heights>>)> {
+    let space = Heights { alloc };
+    let root = Span { low: 0, high: 10 };
+    let (cell, mut passes) = cell_of(alloc, &space, root, 2)?;
+    let mut two = passes.pop()?;
+    let mut one = passes.pop()?;
+    let first = told(rt, alloc, &cell, &mut one, root, false)?;
+    let early = shown(rt, &cell, &mut two)?;
+    let left = told(rt, alloc, &cell, &mut two, LEFT, true)?;
+    let again = told(rt, alloc, &cell, &mut one, LEFT, true)?;
+    let right = told(rt, alloc, &cell, &mut one, RIGHT, true)?;
+    let late = shown(rt, &cell, &mut one)?;
+    let journal = journal_of(cell, vec![in alloc; one, two].ok()?, 2)?;
+    Some(([first, left, again, right], [early, late], journal))
+}
+
+#[test]
+fn a_cell_answers_reports_and_looks_and_keeps_them_all(rt: HostRuntime) {
+    let (told, shown, journal) = two_passes(&rt, rt.alloc()).expect(&rt, "memory");
+    let taken = Accepted::Taken;
+    assert_eq!(rt;
+        told,
+        [
+            (taken, 0),
+            (taken, 31_676),
+            (Accepted::Stale, 31_676),
+            (Accepted::Settled, 71_271)
+        ]
+    );
+    assert_eq!(rt; shown, [None, Some(71_271)]);
+    assert_eq!(rt; journal.len(), 6);
+    for (i, want) in [
+        (0, (0, Kind::Reported)),
+        (1, (1, Kind::Looked)),
+        (2, (1, Kind::Reported)),
+        (3, (0, Kind::Stale)),
+        (4, (0, Kind::Reported)),
+        (5, (0, Kind::Looked)),
+    ] {
+        assert_eq!(rt; journal.get(i).map(said), Some(want), "{i}");
+    }
+}
