@@ -4,6 +4,7 @@ mod copies;
 mod reading;
 mod runs;
 mod watchers;
+mod workers;
 mod writing;
 
 use std::alloc::Global;

@@ -6,3 +6,4 @@ pub mod Splitting
 pub mod Deciding
 pub mod Lent
 pub mod Tops
+pub mod Apart

@@ -11,7 +11,7 @@ use Rattle.pp_goal.specs.Arguments.{after}
 use Rattle.pp_row.proofs.OneTerm.{reads_one}
 pub use Rattle.pp_row.proofs.OneTerm.{one_is_forest}
 
-after-rest : (k : ℕ) (ts : Trees ℕ) → after k (rest ts) ≡ rest (after k ts)
+pub after-rest : (k : ℕ) (ts : Trees ℕ) → after k (rest ts) ≡ rest (after k ts)
 after-rest zero ts = refl
 after-rest (suc k) ts = ap rest (after-rest k ts)
 

@@ -1,25 +1,23 @@
 -- Items of one goal that were solved on the bindings.
-use Rattle.std.proofs.Common.{◌≡◌, ℕ, ℤ, ◌+◌, ◌<◌, Bool, true, List, [], ◌∷◌, ◌++◌, ◌-◌, length, take, drop, Option, Some, None, refl, ap, sym, ◌∙◌, subst, inl, inr, arith}
+use Rattle.std.proofs.Common.{◌≡◌, ℕ, ℤ, ◌+◌, ◌<◌, Bool, List, [], ◌++◌, ◌-◌, length, take, drop, refl, ap, sym, ◌∙◌, subst, inl, inr, arith}
 use Rattle.std.specs.FinSet as set
-use Rattle.std.specs.Ordering.{int_cmp}
 use Rattle.std.proofs.lemmas.List.{take_rest}
-use Rattle.pp_algebra.specs.Terms.{Tree, int, node, variable, Trees, none, more, put, variables, variables_all, count}
-use Rattle.pp_algebra.specs.Rows.{Domain, Row, IsRow, IsWide, domain_at, pattern_of}
-use Rattle.pp_algebra.specs.Covers.{IsIn, IsWithin, MayGo}
+use Rattle.pp_algebra.specs.Terms.{Tree, int, variable, Trees, none, more, variables, variables_all, count}
+use Rattle.pp_algebra.specs.Rows.{Domain, Row}
+use Rattle.pp_algebra.specs.Covers.{IsIn}
 use Rattle.pp_algebra.specs.Least.{first, rest}
 use Rattle.pp_algebra.specs.Numbered.{column, counted_from}
-use Rattle.pp_algebra.specs.Solve.{equation, membership, HasNone}
+use Rattle.pp_algebra.specs.Solve.{equation, membership}
 use Rattle.pp_algebra.proofs.Antisym.{IsIn-either}
-use Rattle.pp_algebra.proofs.Member.{members}
 use Rattle.pp_algebra.proofs.Order.{IsIn-left, IsIn-right}
 use Rattle.pp_algebra.proofs.Put.{count-put_all}
-use Rattle.pp_algebra.proofs.WideLeast.{wide_at}
 use Rattle.pp_row.specs.declared.cell.Cell.{Cell}
 use Rattle.pp_row.specs.Reading.{forest, from}
 use Rattle.pp_sld.specs.Selection.{both_sides, first_in, at_place}
 use Rattle.pp_unify.specs.States.{in_place, IsSolvedBy}
 use Rattle.pp_unify.specs.Laws.{OneHasNone}
 use Rattle.pp_unify.specs.Forests.{counted_all, AreOver, pairs, AreDecided}
+use Rattle.pp_unify.proofs.Emptied.{empty_has_none}
 use Rattle.pp_goal.proofs.Acting.{one_decided, at_place-one}
 use Rattle.pp_algebra.proofs.Numbered.{column-put}
 
@@ -38,21 +36,6 @@ bind_decided r n ts t i z y b q l e f h =
 pub narrow_decided : (r : Row) (n : ℕ) (ts : Trees ℕ) (d : Domain) (b : Bool) (q : Row) → 0 < count ts → IsSolvedBy r (membership (in_place r (counted_from n (first ts))) d) b q → AreDecided r (first_in d (counted_all n ts)) b q
 narrow_decided r n none d b q l h = absurd (omega (arith, l))
 narrow_decided r n (more t ts) d b q l h = one_decided r (membership (counted_from n t) d) b q h
-
-no_empty : (n : ℤ) → set.contains {R = int_cmp} set.empty n ≡ true → ⊥
-no_empty n h = let e = set.contains-empty int_cmp n in absurd (cc)
-
-not_within : (o : Option Domain) → IsWide o → IsWithin set.empty o → ⊥
-not_within None w h = h
-not_within (Some e) w h = let m = members e w in no_empty m.0 (h m.0 m.1)
-
-never_goes : (r : Row) (t : Tree ℕ) → IsRow r → MayGo (domain_at r.domains) (Some set.empty) t → ⊥
-never_goes r (int n) row h = no_empty n h
-never_goes r (node f ts) row h = h
-never_goes r (variable v) row h = not_within (domain_at r.domains v) (wide_at r.domains v row.wide) h
-
-pub empty_has_none : (r : Row) (t : Tree ℕ) → HasNone (pattern_of r) (membership t set.empty ∷ [])
-empty_has_none r t q row m = never_goes q (put m.by t) row m.holds.0
 
 pub empty_decided : (r : Row) (ts : Trees ℕ) → 0 < count ts → OneHasNone r (first_in set.empty ts)
 empty_decided r none l = absurd (omega (arith, l))

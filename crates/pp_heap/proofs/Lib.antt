@@ -6,6 +6,7 @@ pub mod Changes
 pub mod Made
 pub mod Solutions
 pub mod Walk
+pub mod Seeing
 pub mod Keeping
 pub mod Calm
 pub mod Members

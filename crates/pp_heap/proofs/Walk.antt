@@ -1,5 +1,5 @@
 -- A step of a walk over terms that are still to be seen.
-use Rattle.std.proofs.Common.{◌≡◌, ℕ, zero, suc, ◌+◌, ◌<◌, ◌≤◌, pos, List, [], ◌∷◌, ◌++◌, length, refl, ap, sym, ◌∙◌, subst, arith, append_assoc, append-nil, inl, inr}
+use Rattle.std.proofs.Common.{◌≡◌, ℕ, zero, suc, ◌+◌, ◌<◌, ◌≤◌, pos, List, [], ◌∷◌, ◌++◌, length, refl, ap, sym, ◌∙◌, subst, arith, append_assoc, inl, inr}
 use Rattle.std.specs.Prelude.{◌↔◌}
 use Rattle.pp_row.specs.declared.cell.Cell.{Cell}
 use Rattle.pp_row.specs.declared.cell.Cell.TheVariants.{Int}
@@ -45,12 +45,6 @@ popped heap ws ss s e h = ap (terms_of heap) e ∙ terms_of-push heap ss s ∙ a
 pub one_span : (heap : List Cell) (p : ℕ) → IsForest heap → p < length heap → IsSpan heap (record { at = p; count = 1 })
 one_span heap p f l = let x = next heap p (Int (pos 0)) f l in let e = ap count x.some in record { some = omega arith; within = l; enough = omega (arith, e) }
 
-pub one_term : (heap : List Cell) (p : ℕ) → IsForest heap → p < length heap → span_terms heap (record { at = p; count = 1 }) ≡ more (term_at heap p) none
-one_term heap p f l = let x = next heap p (Int (pos 0)) f l in ap (take_trees 1) x.some
-
-pub vars_one : (s : ℕ → Tree ℕ) (heap : List Cell) (p : ℕ) → IsForest heap → p < length heap → vars s (terms_of heap (record { at = p; count = 1 } ∷ [])) ≡ variables (put s (term_at heap p))
-vars_one s heap p f l = ap (vars s) (one_term heap p f l) ∙ append-nil (variables (put s (term_at heap p)))
-
 -- of a term that is no variable
 pub record IsOpened (s : ℕ → Tree ℕ) (t : Tree ℕ) : Type 0 where
   pub variables : variables (put s t) ≡ vars s (arguments t)
@@ -64,11 +58,7 @@ opened s (variable v) h = absurd h
 pub opened_at : (s : ℕ → Tree ℕ) (heap : List Cell) (p : ℕ) → IsForest heap → p < length heap → IsCompound (cell_at heap p) → IsOpened s (term_at heap p)
 opened_at s heap p f l h = opened s (term_at heap p) (subst IsCompound (sym (term_cell heap p f l)) h)
 
--- the walk meets x
-pub walked_found : (s : ℕ → Tree ℕ) (r : Trees ℕ) (t : Tree ℕ) (x y : ℕ) → put s t ≡ variable y → y ≡ x → IsIn x (vars s (more t r))
-walked_found s r t x y e h = rw e (inl h)
-
--- it passes another variable
+-- the walk passes another variable
 pub walked_free : (s : ℕ → Tree ℕ) (r : Trees ℕ) (t : Tree ℕ) (x y : ℕ) → put s t ≡ variable y → (y ≡ x → ⊥) → IsIn x (vars s r) ↔ IsIn x (vars s (more t r))
 walked_free s r t x y e h = rw e ((λ i. inr i), back)
   where

@@ -87,20 +87,34 @@ take-join : (m : ℕ) (ps r : Trees ℕ) → take_trees (count ps + m) (join ps 
 take-join m none r = ap (λ (z : ℕ). take_trees z r) (omega arith)
 take-join m (more p ps) r = let e : suc (count ps) + m ≡ suc (count ps + m) = omega arith in ap (λ (z : ℕ). take_trees z (more p (join ps r))) e ∙ ap (more p) (take-join m ps r)
 
+-- as many terms as the span says, or none
+pub record IsPart (heap : List Cell) (s : Span) : Type 0 where
+  pub within : s.at ≤ length heap
+  pub enough : s.count ≤ count (from heap s.at)
+
+pub part_span : (heap : List Cell) (s : Span) → IsForest heap → IsPart heap s → 1 ≤ s.count → IsSpan heap s
+part_span heap s f h l = record { some = l; within = omega (arith, l, h.enough, h.within, count_from heap s.at f h.within); enough = h.enough }
+
+pub span_part : (heap : List Cell) (s : Span) → IsSpan heap s → IsPart heap s
+span_part heap s h = record { within = omega (arith, h.within); enough = h.enough }
+
 -- the arguments of a span's first term and the terms after it
 module _ (heap : List Cell) (p n k : ℕ) (f : IsForest heap) (s : IsSpan heap (record { at = p; count = n })) (e : k ≡ arity_of (cell_at heap p)) where
-  pub inside_span : IsCompound (cell_at heap p) → IsSpan heap (record { at = p + 1; count = n - 1 + k })
-  inside_span h =
+  pub inside_part : IsPart heap (record { at = p + 1; count = n - 1 + k })
+  inside_part =
       let l : p < length heap = s.within in
       let m : 1 ≤ n = s.some in
       let w : n ≤ count (from heap p) = s.enough in
       let x = next heap p (Int (pos 0)) f l in
-      let c = count_from heap (p + 1) f (omega arith) in
       let q : count (from heap (p + 1)) ≡ count (arguments (term_at heap p)) + count (rest (from heap p)) = ap count x.inner ∙ count-join (arguments (term_at heap p)) (rest (from heap p)) in
       let a : count (arguments (term_at heap p)) ≡ k = x.arity ∙ sym e in
       let b : count (from heap p) ≤ suc (count (rest (from heap p))) = rest-count (from heap p) in
-      let o = some_arguments (cell_at heap p) (legal_at heap p f l) h in
-      record { some = omega arith; within = omega arith; enough = omega arith }
+      record { within = omega arith; enough = omega arith }
+
+  pub inside_span : IsCompound (cell_at heap p) → IsSpan heap (record { at = p + 1; count = n - 1 + k })
+  inside_span h =
+      let o = some_arguments (cell_at heap p) (legal_at heap p f s.within) h in
+      part_span heap (record { at = p + 1; count = n - 1 + k }) f inside_part (omega (arith, o, e))
 
   pub inside_terms : span_terms heap (record { at = p + 1; count = n - 1 + k }) ≡ join (arguments (term_at heap p)) (rest (span_terms heap (record { at = p; count = n })))
   inside_terms =
@@ -114,5 +128,8 @@ module _ (heap : List Cell) (p n k : ℕ) (f : IsForest heap) (s : IsSpan heap (
       ∙ take-join (n - 1) (arguments (term_at heap p)) (rest (from heap p))
       ∙ ap (join (arguments (term_at heap p))) (take-rest (n - 1) (from heap p) ∙ ap (λ (z : ℕ). rest (take_trees z (from heap p))) j)
 
+pub part_fits : (heap : List Cell) (s : Span) → IsForest heap → IsPart heap s → s.count ≤ length heap
+part_fits heap s f h = omega (arith, h.within, h.enough, count_from heap s.at f h.within)
+
 pub inside_fits : (heap : List Cell) (s : Span) → IsForest heap → IsSpan heap s → s.count ≤ length heap
-inside_fits heap s f h = let l : s.at < length heap = h.within in let w : s.count ≤ count (from heap s.at) = h.enough in let c = count_from heap s.at f (omega arith) in omega arith
+inside_fits heap s f h = part_fits heap s f (span_part heap s h)

@@ -3,4 +3,5 @@ pub mod Stores
 pub mod Agreement
 pub mod Soundness
 pub mod Spans
+pub mod Sights
 pub mod Outcomes

@@ -60,7 +60,7 @@ impl State {
         let number = u32::try_from(self.slots.len()).map_err(|_| AllocError)?;
         self.slots.reserve(1)?;
         self.trail.push(Entry::Defined(number))?;
-        self.slots.push(value.slot())?;
+        self.slots.push_reserved(value.slot());
         Ok(number)
     }
 

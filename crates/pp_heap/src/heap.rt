@@ -35,7 +35,7 @@ fn push_shifted(out: &mut Vec<Cell>, cells: &[Cell], first: u32) -> Result<(), A
 {
     out.reserve(cells.len())?;
     for cell in cells {
-        out.push(shifted_cell(*cell, first))?;
+        out.push_reserved(shifted_cell(*cell, first));
     }
     Ok(())
 }
@@ -48,7 +48,7 @@ fn push_free(slots: &mut Vec<Slot>, count: u32) -> Result<(), AllocError>
     slots.reserve(count as usize)?;
     let mut left = count;
     while left > 0 {
-        slots.push(Slot::Free(None))?;
+        slots.push_reserved(Slot::Free(None));
         left -= 1;
     }
     Ok(())

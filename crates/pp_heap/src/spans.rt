@@ -1,5 +1,5 @@
 //! Terms of the heap that are still to be walked.
-ghost use Rattle.std.specs.Prelude.{◌≡◌, ◌<◌, length, IfOk, IsTrue, All};
+ghost use Rattle.std.specs.Prelude.{◌≡◌, ◌<◌, length, vec_len, vec_capacity, IfOk, IsTrue, All};
 ghost use Rattle.pp_algebra.specs.Least.{rest, arguments};
 ghost use Rattle.pp_row.specs.Cells.{arity_of};
 ghost use Rattle.pp_algebra.specs.Terms.{join};
@@ -21,6 +21,18 @@ pub struct Span {
 impl State {
     /// Where the term ends that begins at this place.
     pub fn end_at(&self, at: u32) -> u32
+        requires good { IsGood self.now }
+        requires within { at < length self.now.heap.items }
+        ensures { IsEnd self.now.heap.items at result }
+    {
+        match self.heap[at as usize] {
+            Cell::Compound(_, _) => self.compound_end(at),
+            _ => at + 1,
+        }
+    }
+
+    /// The same, by a walk over the cells of its arguments.
+    fn compound_end(&self, at: u32) -> u32
         requires good { IsGood self.now }
         requires within { at < length self.now.heap.items }
         ensures { IsEnd self.now.heap.items at result }
@@ -72,14 +84,27 @@ impl State {
         ensures all { IfOk result (λ _. All (IsSpan self.now.heap.items) work.new.items) }
         ensures terms { IfOk result (λ _. terms_of self.now.heap.items work.new.items ≡ join (rest (span_terms self.now.heap.items span)) (terms_of self.now.heap.items work.old.items)) }
     {
+        work.reserve(1)?;
+        self.put_rest(work, span);
+        Ok(())
+    }
+
+    /// The same where the work has room, as it has after a pop.
+    pub fn put_rest(&self, work: &mut Vec<Span>, span: Span)
+        requires good { IsGood self.now }
+        requires span { IsSpan self.now.heap.items span }
+        requires all { All (IsSpan self.now.heap.items) work.old.items }
+        requires room { vec_len work.old < vec_capacity work.old }
+        ensures all { All (IsSpan self.now.heap.items) work.new.items }
+        ensures terms { terms_of self.now.heap.items work.new.items ≡ join (rest (span_terms self.now.heap.items span)) (terms_of self.now.heap.items work.old.items) }
+    {
         if span.count > 1 {
             let at = self.end_at(span.at);
-            work.push(Span {
+            work.push_reserved(Span {
                 at,
                 count: span.count - 1,
-            })?;
+            });
         }
-        Ok(())
     }
 
     /// Puts the arguments of the compound at this place to the work.

@@ -1,2 +1,3 @@
-//! What no contract says: that a call with ample memory answers, and that it ends soon.
+//! What no contract says: that a call with ample memory answers, that it ends soon, and that workers share a search.
+mod gates;
 mod verdicts;

@@ -25,13 +25,14 @@ use Rattle.pp_moves.proofs.Selecting.{Waits, put_act, at_place-put, next_selecte
 use Rattle.pp_unify.specs.States.{value_in, with_new, with_many}
 use Rattle.pp_unify.specs.Laws.{item_in, IsItemOver, AreSolved}
 use Rattle.pp_unify.specs.Forests.{AreOver, AreDecided}
+use Rattle.pp_goal.specs.Apart.{AreApart}
 use Rattle.pp_resolve.specs.Standing.{counted, standing, config_in}
 use Rattle.pp_resolve.specs.Acts.{placed, does, values}
 use Rattle.pp_resolve.specs.Engines.{DoWait}
 use Rattle.pp_clause.specs.declared.first.First.{First}
 use Rattle.pp_clause.specs.Firsts.{first_of, CannotMatch}
 use Rattle.pp_clause.proofs.Dead.{left_out_are_dead}
-use Rattle.pp_resolve.proofs.Firsts.{said_put}
+use Rattle.pp_resolve.proofs.Firsts.{apart_dead, said_put}
 use Rattle.pp_resolve.proofs.Fresh.{HasFresh, fresh_many, no_fresh}
 use Rattle.pp_resolve.proofs.Steps.{over_left}
 use Rattle.pp_resolve.proofs.Calling.{call_leads, call_dead, over_before, over_after, over_goal, over_calls}
@@ -183,6 +184,16 @@ module _ (clauses : Program) (r : Row) (row : IsRow r) (before : List (Goal ℕ)
         way cl,
         slice_get-map way (clauses p) place ∙ ap (option_map way) at,
         left_out_are_dead first here (map (put_goal s) bf) (put_goal s g0) (map (put_goal s) af) d cl (said_put s first g0.arguments is) out,
+      )
+
+      -- a clause with an argument of another top is dead
+      pub call_apart : (place : ℕ) (cl : Clause) → slice_get (clauses p) place ≡ Some cl → AreApart g0.arguments cl.head → IsDeadAt clauses here place
+      call_apart place cl at out = (
+        map way (clauses p),
+        called,
+        way cl,
+        slice_get-map way (clauses p) place ∙ ap (option_map way) at,
+        apart_dead here (map (put_goal s) bf) (map (put_goal s) af) d s g0.shape cl.body out.0 g0.arguments cl.head out.1,
       )
 
       module _ (place : ℕ) (cl : Clause) (at : slice_get (clauses p) place ≡ Some cl) (amount : ℕ) (head : (v : ℕ) → IsIn v (variables_all cl.head) → v < amount) (body : (v : ℕ) → IsIn v (variables_all (with_goals cl.body none)) → v < amount) where

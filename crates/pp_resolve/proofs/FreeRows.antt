@@ -2,14 +2,14 @@
 use Rattle.std.proofs.Common.{◌≡◌, ℕ, ℤ, zero, suc, ◌+◌, ◌<◌, ◌⊎◌, inl, inr, List, [], ◌∷◌, ◌++◌, length, take, get_or, All, Option, Some, refl, ap, sym, ◌∙◌, arith, subst, length-append}
 use Rattle.std.proofs.lemmas.List.{take_more, map-append}
 use Rattle.std.proofs.lemmas.List.Elements.{All-head, All-tail}
-use Rattle.pp_algebra.specs.Terms.{Tree, Trees, variable, more, none, count, join, put_all, variables_all}
+use Rattle.pp_algebra.specs.Terms.{Tree, Trees, variable, more, none, join, put_all, variables_all}
 use Rattle.pp_algebra.specs.Rows.{Domain, Row, IsNumbered, IsWide, IsRow, IsCanonical}
 use Rattle.pp_algebra.specs.Covers.{IsIn}
 use Rattle.pp_algebra.proofs.Put.{put_all-variable}
 use Rattle.pp_algebra.proofs.Antisym.{put_all-agree}
 use Rattle.pp_sld.specs.Goals as goals
 use Rattle.pp_sld.specs.Goals.{Config, put_goal, with_goals, row_of}
-use Rattle.pp_algebra.specs.Numbered.{variables_from, column}
+use Rattle.pp_algebra.specs.Numbered.{variables_from}
 use Rattle.pp_sld.specs.Leaves.{root}
 use Rattle.pp_row.specs.Columns.{set_by, sets_of, trees_of}
 use Rattle.pp_moves.specs.Numbered.{numbered}

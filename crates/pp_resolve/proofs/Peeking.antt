@@ -1,6 +1,7 @@
 -- How many alternatives there are, by the selected goal.
-use Rattle.std.proofs.Common.{◌≡◌, ℕ, zero, suc, List, [], ◌∷◌, ◌++◌, length, map, Some, refl, ap, sym, ◌∙◌, subst, arith}
+use Rattle.std.proofs.Common.{◌≡◌, ℕ, zero, suc, ◌<◌, ◌≤◌, ◌⊎◌, inl, inr, List, [], ◌∷◌, ◌++◌, length, map, Some, refl, ap, sym, ◌∙◌, subst, arith}
 use Rattle.std.specs.List.{slice_get}
+use Rattle.std.proofs.lemmas.Bool.{cases_lt}
 use Rattle.std.proofs.lemmas.List.{length-map}
 use Rattle.pp_algebra.specs.Rows.{Row}
 use Rattle.pp_algebra.specs.Solve.{Item}
@@ -9,6 +10,7 @@ use Rattle.pp_sld.specs.Selection.{solves, calls, never, splits}
 use Rattle.pp_sld.specs.Ways.{Way, choices, next}
 use Rattle.pp_term.specs.Meanings.{program}
 use Rattle.pp_unify.specs.Forests.{AreOver}
+use Rattle.pp_goal.specs.Apart.{AreApart}
 use Rattle.pp_goal.specs.declared.acts.Act.{Act}
 use Rattle.pp_goal.specs.declared.acts.Act.TheVariants as acts
 use Rattle.pp_resolve.specs.declared.engine.Engine.{Engine}
@@ -25,6 +27,14 @@ use Rattle.pp_resolve.specs.Selected.{all_goals, AllGoalsWait, StandsAfter, IsSe
 use Rattle.pp_resolve.proofs.Linked.{goal_there}
 use Rattle.pp_resolve.proofs.Following as so
 use Rattle.pp_resolve.proofs.Following.{ended, stuck_all}
+
+-- what holds below a number and from it on
+pub by_place : (P : ℕ → Type 0) (n k : ℕ) → (k < n → P k) → (n ≤ k → P k) → P k
+by_place P n k below above = go (cases_lt k n)
+  where
+    go : (k < n) ⊎ (n ≤ k) → P k
+    go (inl h) = below h
+    go (inr h) = above h
 
 -- all goals wait
 pub none_chosen : (e : Engine) → AllGoalsWait e → (ws : List Way) → follows e ≡ choices ws → ⊥
@@ -74,6 +84,17 @@ module _ (e : Engine) (good : IsGood e) (g : Goal ℕ) (s : StandsAfter e g) whe
           let cl = get_some (clauses p) k (omega (arith, so_called p h c.0 c.1, c.2)) in
           subst (λ gs. IsDeadAt clauses (config_in r gs e.columns.columns e.front.depth) k) (sym s.2)
           (so.call_left_out clauses r good.here.row (s.0) g (s.1) e.columns.columns e.front.depth over s.3 p h d z first k cl.0 cl.1 is (out cl.0 cl.1))
+
+  -- one with an argument of another top is dead
+  pub so_apart : (p : Predicate) → does r g ≡ Some (calls p) → (k : ℕ) → HasChoice clauses (place_of e).here k → ((cl : Clause) → slice_get (clauses p) k ≡ Some cl → AreApart (placed r g).arguments cl.head) → IsDeadAt clauses (place_of e).here k
+  so_apart p h k c out = go e.front.depth refl
+    where
+      go : (n : ℕ) → e.front.depth ≡ n → IsDeadAt clauses (place_of e).here k
+      go zero z = absurd (cc (sym (here ∙ so.spent clauses r good.here.row (s.0) g (s.1) e.columns.columns e.front.depth over s.3 p h z) ∙ c.1))
+      go (suc d) z =
+          let cl = get_some (clauses p) k (omega (arith, so_called p h c.0 c.1, c.2)) in
+          subst (λ gs. IsDeadAt clauses (config_in r gs e.columns.columns e.front.depth) k) (sym s.2)
+          (so.call_apart clauses r good.here.row (s.0) g (s.1) e.columns.columns e.front.depth over s.3 p h d z k cl.0 cl.1 (out cl.0 cl.1))
 
   pub so_split : does r g ≡ Some splits → (ws : List Way) → follows e ≡ choices ws → length ws ≡ length (values r g)
   so_split h ws f =

@@ -8,6 +8,7 @@ use Rattle.pp_sld.specs.Selection.{solves, calls, never, splits}
 use Rattle.pp_sld.specs.Ways.{Way, Leads, IsDead, finished, left_loose, fails, one, choices, next}
 use Rattle.pp_term.specs.declared.clause.Clause.{Clause}
 use Rattle.pp_term.specs.Meanings.{program}
+use Rattle.pp_unify.proofs.Listed.{get_any}
 use Rattle.pp_unify.specs.Laws.{item_in, IsItemOver}
 use Rattle.pp_unify.specs.Forests.{AreOver, AreDecided}
 use Rattle.pp_goal.specs.declared.acts.Act.{Act}
@@ -39,11 +40,6 @@ use Rattle.pp_resolve.proofs.Following as so
 use Rattle.pp_resolve.proofs.Following.{ended, stuck_all}
 
 -- ===== events
-
-get_any : {A : Type 0} (xs : List A) (i : ℕ) (d x : A) → i < length xs → get_or xs i d ≡ get_or xs i x
-get_any [] i d x l = absurd (omega (arith, l))
-get_any (y ∷ xs) zero d x l = refl
-get_any (y ∷ xs) (suc i) d x l = get_any xs i d x (omega (arith, l))
 
 nothing_in : (ws : List Way) → length ws ≡ 0 → ws ≡ []
 nothing_in [] e = refl

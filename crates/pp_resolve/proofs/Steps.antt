@@ -1,9 +1,9 @@
 -- From items that are solved on the bindings to where a way leads.
-use Rattle.std.proofs.Common.{◌≡◌, ℕ, zero, suc, ◌+◌, ◌<◌, ◌≤◌, ◌⊎◌, inl, inr, List, [], ◌∷◌, ◌++◌, length, map, All, refl, ap, sym, ◌∙◌, subst, arith}
+use Rattle.std.proofs.Common.{◌≡◌, ℕ, zero, suc, ◌+◌, ◌<◌, ◌⊎◌, inl, inr, List, [], ◌∷◌, ◌++◌, length, map, All, refl, ap, sym, ◌∙◌, subst, arith}
 use Rattle.std.specs.Prelude.{nat_eq}
 use Rattle.std.proofs.lemmas.List.{map-append}
 use Rattle.pp_algebra.specs.Terms.{Tree, Trees, none, more, variable, put, put_all, variables, variables_all, count}
-use Rattle.pp_algebra.specs.Rows.{Row, domain_at, pattern_of, IsNumbered, IsRow}
+use Rattle.pp_algebra.specs.Rows.{Row, domain_at, pattern_of, IsRow}
 use Rattle.pp_algebra.specs.Covers.{IsIn}
 use Rattle.pp_algebra.specs.Canon.{canon}
 use Rattle.pp_algebra.specs.Solve.{Item, equation, membership, put_item, IsSolved, HasNone}

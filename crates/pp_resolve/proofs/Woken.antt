@@ -1,6 +1,6 @@
 -- Goals that were passed over are looked at, from the last to the first.
 use Rattle.std.proofs.Common.{◌≡◌, ℕ, ◌+◌, ◌<◌, ◌≤◌, List, [], ◌∷◌, ◌++◌, length, get_or, Option, None, Some, refl, ap, sym, ◌∙◌, subst, arith, append_assoc, append-nil}
-use Rattle.std.specs.Prelude.{MatchOption}
+use Rattle.std.specs.Prelude.{IfSome, MatchOption}
 use Rattle.std.proofs.lemmas.List.Elements.{All-nil, All-cons, All-append}
 use Rattle.pp_sld.specs.Goals.{Goal, put_goal}
 use Rattle.pp_goal.specs.declared.acts.Act.{Act}
@@ -15,8 +15,12 @@ use Rattle.pp_resolve.proofs.Moving.{nothing_left}
 use Rattle.pp_resolve.specs.Acts.{does}
 use Rattle.pp_resolve.specs.Engines.{goal_of, row_of, waiting, left, DoWait, AllWait, IsGood, IsGoalAt, Looks}
 use Rattle.pp_resolve.specs.Selected.{all_goals, AllGoalsWait, StandsAfter, IsSelected}
-use Rattle.pp_resolve.proofs.Linked.{link_is, link_some, first_is, stepped, goals_open}
+use Rattle.pp_resolve.proofs.Linked.{link_is, link_some, link_next, first_is, stepped, goals_open}
 use Rattle.pp_resolve.proofs.Unwinding.{chain_at, waits_on, nothing_waits}
+
+-- the goals of this link wait but for those of the other
+abbrev pub DoWaitFrom : Engine → ℕ → ℕ → Type 0
+DoWaitFrom e start link = (gs : List (Goal ℕ)) × (waiting e start ≡ waiting e link ++ gs) × DoWait (row_of e) gs
 
 -- it doesn't wait, and those between the link and it do
 pub record IsFound (e : Engine) (link : ℕ) (l : Rest) (a : Act) : Type 0 where
@@ -24,10 +28,12 @@ pub record IsFound (e : Engine) (link : ℕ) (l : Rest) (a : Act) : Type 0 where
   pub some : l.from < l.to
   pub looks : Looks e l a
   pub ready : a ≡ Wait → ⊥
+  pub next : l.next ≤ length e.history.links.items
+  pub wait : DoWaitFrom e l.next link
   pub stands : (g : Goal ℕ) → IsGoalAt e l g → (between : List (Goal ℕ)) × (tail : List (Goal ℕ)) × (waiting e e.front.passed ≡ waiting e link ++ between ++ put_goal (counted l.first) g ∷ tail) × DoWait (row_of e) between
 
 abbrev pub Scanned : Engine → ℕ → Option (Rest × Act) → Type 0
-Scanned e link None = (gs : List (Goal ℕ)) × (waiting e e.front.passed ≡ waiting e link ++ gs) × DoWait (row_of e) gs
+Scanned e link None = DoWaitFrom e e.front.passed link
 Scanned e link (Some p) = IsFound e link p.0 p.1
 
 pub scanned_none : (e : Engine) → Scanned e e.front.passed None
@@ -41,6 +47,8 @@ module _ (e : Engine) (good : IsGood e) (i : ℕ) (l : Rest) (w : i < length e.h
     some = link_some e.clauses.now (goal_of e) e.history.links.items i l w is good.here.links;
     looks = looks;
     ready = ready;
+    next = let n = link_next e.clauses.now (goal_of e) e.history.links.items i l w is good.here.links in omega (arith, n, w);
+    wait = ([], sym (append-nil (waiting e l.next)), All-nil (λ x. does (row_of e) x ≡ None));
     stands = λ g at. (
       [],
       behind,
@@ -60,6 +68,8 @@ module _ (e : Engine) (good : IsGood e) (i : ℕ) (l : Rest) (w : i < length e.h
     some = s.some;
     looks = s.looks;
     ready = s.ready;
+    next = s.next;
+    wait = waits_on e good i l w is p.0.next s.wait.0 s.wait.1 s.wait.2 g at n;
     stands = λ h there.
         let k = s.stands h there in
         let raw = put_goal (counted l.first) g in (
@@ -139,3 +149,8 @@ module _ (e : Engine) (good : IsGood e) (l one : Rest) (p : Passed e l) (r : IsR
 pub ended : (e : Engine) (n : ℕ) (found : Option (Rest × Act)) → n ≡ 0 → Scanned e n found → MatchOption found (AllWait e) (IsSelected e)
 ended e n None z s = all_waiting e n z s
 ended e n (Some p) z s = selected_woken e n p z s
+
+-- the goals before the one that was found wait
+pub found_next : (e : Engine) (n : ℕ) (found : Option (Rest × Act)) → n ≡ 0 → Scanned e n found → IfSome found (λ p. (p.0.next ≤ length e.history.links.items) × DoWait (row_of e) (waiting e p.0.next))
+found_next e n None z s = tt
+found_next e n (Some p) z s = (s.next, subst (DoWait (row_of e)) (sym (s.wait.1 ∙ ap (λ gs. gs ++ s.wait.0) (nothing_waits e n z))) s.wait.2)

@@ -1,15 +1,19 @@
 //! Which alternative is tried next, told without a change.
-ghost use Rattle.std.specs.Prelude.{◌≡◌, ◌<◌, ◌≤◌, true, false, length, MatchOption};
+ghost use Rattle.std.specs.Prelude.{◌≡◌, ◌<◌, ◌≤◌, ℕ, true, false, length, IfSome, MatchOption};
 ghost use Rattle.pp_resolve.specs.Selected.{AllGoalsWait, IsSelected};
 ghost use Rattle.pp_goal.specs.declared.acts.Act.TheVariants.{Call, Split};
 ghost use Rattle.pp_term.specs.Meanings.{program};
-ghost use Rattle.pp_walk.specs.Moves.{IsAtChoice, IsNextPlace};
-ghost use Rattle.pp_resolve.specs.Engines.{place_of, goal_of, AllWait, IsGood};
+ghost use Rattle.pp_walk.specs.Moves.{IsAtChoice, HasChoice, IsDeadAt, IsNextPlace};
+ghost use Rattle.pp_resolve.specs.Engines.{place_of, goal_of, row_of, waiting, AllWait, DoWait, IsGood, IsGoalAt};
 ghost use Rattle.pp_resolve.specs.Links.{IsRest, goals_in};
+ghost use Rattle.pp_resolve.specs.Shown.{IsShown};
+ghost use Rattle.pp_goal.specs.Arguments.{IsLent};
+ghost use Rattle.pp_sld.specs.Goals.{Goal};
 
 use crate::engine::Engine;
 use crate::history::Rest;
-use pp_goal::{Act, first_argument, split_count};
+use pp_clause::{First, GoalAt};
+use pp_goal::{Act, first_argument, may_match, split_count};
 
 /// Whether a goal is left, of their own body or of a link.
 fn has_goals(rest: Rest) -> bool
@@ -22,9 +26,10 @@ fn has_goals(rest: Rest) -> bool
 
 impl<'a> Engine<'a> {
     /// The leftmost goal that was passed over and doesn't wait any more, with what is done with it.
-    fn woken(&self) -> Option<(Rest, Act)>
+    pub(crate) fn woken(&self) -> Option<(Rest, Act)>
         requires good { IsGood self.now }
-        ensures { MatchOption result (AllWait self.now) (IsSelected self.now) }
+        ensures found { MatchOption result (AllWait self.now) (IsSelected self.now) }
+        ensures before { IfSome result (λ p. (p.0.next ≤ length self.now.history.links.items) × DoWait (row_of self.now) (waiting self.now p.0.next)) }
     {
         let mut found = None;
         let mut link = self.front.passed;
@@ -76,6 +81,32 @@ impl<'a> Engine<'a> {
         None
     }
 
+    /// Whether the clause at a place, which its first argument doesn't rule out, may match the goal.
+    fn may_take(
+        &self,
+        rest: Rest,
+        goal: &GoalAt<'_>,
+        first: First,
+        predicate: u32,
+        place: u32,
+    ) -> bool
+        requires good { IsGood self.now }
+        requires selected { IsSelected self.now (rest, Call predicate) }
+        requires choice { HasChoice (program self.now.clauses.now) (place_of self.now).here place }
+        requires shown { (g : Goal ℕ) → IsGoalAt self.now rest g → IsShown self.now.clauses.now g goal.now }
+        requires lent { IsLent (row_of self.now) goal.now rest.first }
+        ensures { result ≡ false → IsDeadAt (program self.now.clauses.now) (place_of self.now).here place }
+    {
+        match first {
+            // Behind a compound no other argument is looked at.
+            First::Functor(_, _) => true,
+            _ => {
+                let head = self.clauses.head(self.clauses.number(predicate, place));
+                may_match(&self.history.bindings, goal, rest.first, head)
+            }
+        }
+    }
+
     /// The next clause that may match the goal, from this place on.
     fn next_clause(&self, rest: Rest, predicate: u32, from: u64) -> Option<u64>
         requires good { IsGood self.now }
@@ -86,11 +117,16 @@ impl<'a> Engine<'a> {
         if from >= self.clauses.count_at(predicate) as u64 {
             return None;
         }
-        let first = first_argument(&self.history.bindings, &self.goal(rest), rest.first);
-        match self.clauses.place_from(predicate, first, from as u32) {
-            Some(place) => Some(place as u64),
-            None => None,
+        let goal = self.goal(rest);
+        let first = first_argument(&self.history.bindings, &goal, rest.first);
+        let mut next = from as u32;
+        while let Some(place) = self.clauses.place_from(predicate, first, next) {
+            if self.may_take(rest, &goal, first, predicate, place) {
+                return Some(place as u64);
+            }
+            next = place + 1;
         }
+        None
     }
 
     /// The next value of the goal's argument, from this place on.

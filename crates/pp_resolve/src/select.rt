@@ -111,16 +111,10 @@ impl<'a> Engine<'a> {
         ensures within { result ≤ length self.now.history.links.items }
         ensures wait { DoWait (row_of self.now) (waiting self.now result) }
     {
-        let mut start = self.front.passed;
-        let mut link = start;
-        while link > 0 {
-            let rest = self.history.links[link as usize - 1];
-            if self.look(rest) != Act::Wait {
-                start = rest.next;
-            }
-            link = rest.next;
+        match self.woken() {
+            Some((rest, _)) => rest.next,
+            None => self.front.passed,
         }
-        start
     }
 
     /// Puts the goal that was passed over last back before those that are left.

@@ -1,12 +1,12 @@
 -- Lists of numbers, terms and domains, place by place.
-use Rattle.std.proofs.Common.{◌≡◌, ℕ, ℤ, zero, suc, ◌+◌, ◌<◌, ◌≤◌, ◌⊎◌, inl, inr, Bool, true, false, List, [], ◌∷◌, ◌++◌, length, map, get_or, take, set, pos, Option, None, All, refl, ap, sym, ◌∙◌, subst, arith}
+use Rattle.std.proofs.Common.{◌≡◌, ℕ, zero, suc, ◌+◌, ◌<◌, inl, inr, Bool, true, false, List, [], ◌∷◌, ◌++◌, length, map, get_or, take, Option, All, refl, ap, sym, ◌∙◌, arith}
 use Rattle.std.specs.Prelude.{cond, filter, nat_eq, ◌||◌}
 use Rattle.std.proofs.lemmas.List.{map-append, take_more}
 use Rattle.std.proofs.lemmas.List.Elements.{All-nil, All-cons}
-use Rattle.pp_algebra.specs.Terms.{Tree, Trees, int, none, more, put, put_all, variables, variables_all, count}
+use Rattle.pp_algebra.specs.Terms.{Tree, put, put_all, variables, variables_all}
 use Rattle.pp_algebra.specs.Rows.{Domain, domain_at, IsWide}
 use Rattle.pp_algebra.specs.Covers.{IsIn}
-use Rattle.pp_algebra.specs.Canon.{has, place, Distinct}
+use Rattle.pp_algebra.specs.Canon.{has, place}
 use Rattle.pp_algebra.specs.Numbered.{column}
 use Rattle.pp_algebra.proofs.Bools.{nat_same, nat_is}
 use Rattle.pp_algebra.proofs.Antisym.{IsIn-either}
@@ -114,9 +114,3 @@ filter_more p xs i l = ap (filter p) (take_more xs i 0 l) ∙ pushed (take i xs)
       | true ↦ ap (λ zs. y ∷ zs) (pushed ys)
       | false ↦ pushed ys
     ]
-
--- what stands at a place that there is, whatever stands elsewhere
-pub get_any : {A : Type 0} (xs : List A) (i : ℕ) (d e : A) → i < length xs → get_or xs i d ≡ get_or xs i e
-get_any [] i d e l = absurd (omega (arith, l))
-get_any (x ∷ xs) zero d e l = refl
-get_any (x ∷ xs) (suc i) d e l = get_any xs i d e (omega (arith, l))

@@ -1,17 +1,14 @@
 -- Terms that are put into a domain, by their first cells.
-use Rattle.std.proofs.Common.{◌≡◌, ℕ, ℤ, zero, suc, ◌<◌, Bool, true, false, [], ◌∷◌, length, get_or, arith, Option, Some, None, refl, ap, sym, subst, inl}
+use Rattle.std.proofs.Common.{◌≡◌, ℕ, ℤ, zero, suc, ◌<◌, Bool, true, false, [], ◌∷◌, length, get_or, arith, refl, ap, sym, subst, inl}
 use Rattle.std.specs.FinSet as set
-use Rattle.std.specs.Ordering.{int_cmp}
 use Rattle.std.proofs.lemmas.List.Elements.{All-head}
 use Rattle.pp_algebra.specs.Terms.{Tree, int, node, variable, variables, count, put}
-use Rattle.pp_algebra.specs.Rows.{Domain, Row, domain_at, pattern_of, IsWide, IsRow}
-use Rattle.pp_algebra.specs.Covers.{IsIn, MayGo, IsWithin}
+use Rattle.pp_algebra.specs.Rows.{Domain, Row, domain_at, pattern_of, IsRow}
+use Rattle.pp_algebra.specs.Covers.{IsIn}
 use Rattle.pp_algebra.specs.Solve.{membership, IsSolved, HasNone}
 use Rattle.pp_algebra.specs.Members.{IsInteger}
 use Rattle.pp_algebra.proofs.Put.{put_all-variable}
 use Rattle.pp_algebra.proofs.Order.{may_stay}
-use Rattle.pp_algebra.proofs.Member.{members}
-use Rattle.pp_algebra.proofs.WideLeast.{wide_at}
 use Rattle.pp_row.specs.declared.cell.Cell.{Cell}
 use Rattle.pp_row.specs.declared.cell.Cell.TheVariants.{Int, Atom, Compound, Var}
 use Rattle.pp_row.specs.Cells.{head_of, cells_of, cells_of_all, IsLegalCell, IsTerm}
@@ -58,19 +55,6 @@ module _ (r : Row) (d : Domain) where
     meets = record { by = variable; columns = put_all-variable r.columns; domains = λ v. may_stay (domain_at r.domains) v (domain_at r.domains v) refl; holds = (f, tt) };
     most = λ q j m. record { by = m.by; columns = m.columns; domains = λ v k. m.domains v };
   })
-
--- nothing is in the empty set
-pub empty_has_none : (r : Row) (t : Tree ℕ) → HasNone (pattern_of r) (membership t set.empty ∷ [])
-empty_has_none r t q i m = go (put m.by t) m.holds.0
-  where
-    within : (e : Option Domain) → IsWide e → IsWithin set.empty e → ⊥
-    within None w h = h
-    within (Some e) w h = let x = members e w in let y : set.contains set.empty x.0 ≡ true = h x.0 x.1 in let z : set.contains set.empty x.0 ≡ false = set.contains-empty int_cmp x.0 in absurd (cc (y, z))
-
-    go : (u : Tree ℕ) → MayGo (domain_at q.domains) (Some set.empty) u → ⊥
-    go (int n) h = let z : set.contains set.empty n ≡ false = set.contains-empty int_cmp n in absurd (cc (h, z))
-    go (node f ts) h = h
-    go (variable w) h = within (domain_at q.domains w) (wide_at q.domains w i.wide) h
 
 pub has_cells : (t : Tree ℕ) → 0 < length (cells_of t)
 has_cells (int n) = omega arith

@@ -31,3 +31,5 @@ pub mod Walking
 pub mod FirstCells
 pub mod Unseen
 pub mod StillTops
+pub mod Emptied
+pub mod Listed

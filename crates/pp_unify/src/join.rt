@@ -1,5 +1,5 @@
 //! Two lists of terms that are made equal, a goal's and a clause's head, walked in step where they stand.
-ghost use Rattle.std.specs.Prelude.{◌≡◌, ℕ, ◌+◌, ◌<◌, ◌^◌, ◌↔◌, [], List, length, IfOk, IsTrue, All};
+ghost use Rattle.std.specs.Prelude.{◌≡◌, ℕ, ◌+◌, ◌<◌, ◌^◌, ◌↔◌, [], List, length, vec_len, vec_capacity, IfOk, IsTrue, All};
 ghost use Rattle.pp_algebra.specs.Terms.{count, more, join};
 ghost use Rattle.pp_algebra.specs.Least.{rest};
 ghost use Rattle.pp_algebra.specs.Numbered.{counted_from};
@@ -131,6 +131,7 @@ fn take_span(
     requires good { IsGood state.now }
     requires span { IsSpan state.now.heap.items span }
     requires all { All (IsSpan state.now.heap.items) work.old.items }
+    requires room { vec_len work.old < vec_capacity work.old }
     requires head { IsForest head.now }
     requires within { next < length head.now }
     ensures all { IfOk result (λ _. All (IsSpan state.now.heap.items) work.new.items) }
@@ -140,7 +141,7 @@ fn take_span(
         state.push_inside(work, span)?;
         return Ok(Taken::Alike(at));
     }
-    state.push_rest(work, span)?;
+    state.put_rest(work, span);
     Ok(Taken::Value(state.look(span.at), at))
 }
 

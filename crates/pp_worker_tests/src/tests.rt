@@ -3,3 +3,4 @@ mod cells;
 mod heights;
 mod searching;
 mod teams;
+mod turns;

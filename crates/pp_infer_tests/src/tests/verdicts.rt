@@ -10,7 +10,7 @@ use pp_print::row_text;
 use pp_read::{ClauseList, Program, read};
 use pp_term::{Item, Mode, Names, Pred, Row, Shape, Terms};
 use pp_walk::Steps;
-use pp_worker::OpenGate;
+use pp_worker::{Gate, OpenGate};
 use std::alloc::Global;
 use std::marker::Brand;
 use std::process::Abort;
@@ -59,15 +59,16 @@ fn written(rt: &impl Abort, alloc: Global, names: &Names, verdict: &Verdict) -> 
     word.to_vec(alloc).expect(rt, "memory")
 }
 
-/// The verdict of the only goal of a text in this mode, under its arguments, found by so many workers or by one thread.
-/// Workers search less deep, since many of them may have to share one processor.
-fn inferred<L: Ledger, R: Abort + Threads + Wait + Sync>(
+/// The verdict of the only goal of a text in this mode, under its arguments, found by one thread or by so many workers,
+/// who pass the gate. Workers search less deep, since many of them may have to share one processor.
+fn inferred<L: Ledger, G: Gate, R: Abort + Threads + Wait + Sync>(
     rt: &R,
     alloc: Global,
     blank: Blank,
     program: Program,
     mode: Mode,
     workers: Option<u32>,
+    gate: &G,
 ) -> Vec<u8>
     requires clauses { All IsClause program.clauses }
     requires name { blank.name ≡ L.name }
@@ -89,26 +90,25 @@ fn inferred<L: Ledger, R: Abort + Threads + Wait + Sync>(
     let mut steps: Steps<L> = Steps::new(blank);
     let verdict = match workers {
         None => infer_alone(alloc, &clauses, shape, mode, &face, 1000, &mut steps),
-        Some(workers) => infer_with(
-            rt, alloc, &clauses, shape, mode, &face, 60, workers, &OpenGate,
-        ),
+        Some(workers) => infer_with(rt, alloc, &clauses, shape, mode, &face, 60, workers, gate),
     };
     written(rt, alloc, &names, &verdict.expect(rt, "memory"))
 }
 
 /// The verdict of the only goal of a text in this mode.
-fn verdict_of<R: Abort + Threads + Wait + Sync>(
+pub fn verdict_of<G: Gate, R: Abort + Threads + Wait + Sync>(
     rt: &R,
     alloc: Global,
     text: &[u8],
     mode: Mode,
     workers: Option<u32>,
+    gate: &G,
 ) -> Vec<u8>
     requires { IfSome workers (λ n. (1 ≤ n) × (n ≤ 64)) }
 {
     assert!(rt; text.len() <= 1000);
     let program = read(alloc, text).expect(rt, "a text without fault");
-    inferred::<Brand, R>(rt, alloc, Blank::new(1), program, mode, workers)
+    inferred::<Brand, G, R>(rt, alloc, Blank::new(1), program, mode, workers, gate)
 }
 
 /// The goal of each text has this verdict.
@@ -121,7 +121,7 @@ fn expect_verdicts<R: Abort + Threads + Wait + Sync>(
     requires { IfSome workers (λ n. (1 ≤ n) × (n ≤ 64)) }
 {
     for (text, mode, verdict) in rows {
-        let found = verdict_of(rt, alloc, text.as_bytes(), *mode, workers);
+        let found = verdict_of(rt, alloc, text.as_bytes(), *mode, workers, &OpenGate);
         assert_eq!(rt; found.as_slice(), verdict.as_bytes());
     }
 }

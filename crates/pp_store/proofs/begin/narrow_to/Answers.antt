@@ -3,7 +3,7 @@ use Rattle.pp_algebra.specs.Solve.{membership, HasNone}
 use Rattle.pp_algebra.specs.Rows.{pattern_of}
 use Rattle.pp_term.specs.Meanings.{members_by}
 use Rattle.pp_unify.specs.States.{present, in_place}
-use Rattle.pp_store.proofs.Narrowing.{empty_has_none}
+use Rattle.pp_unify.proofs.Emptied.{empty_has_none}
 use Rattle.pp_store.proofs.begin.narrow_to.Goals as goal
 
 pub returns-in-None : goal.returns-in-None

@@ -5,7 +5,8 @@ use Rattle.pp_algebra.specs.Terms.{int, variables}
 use Rattle.pp_store.specs.Occurring.{Stands}
 use Rattle.pp_store.specs.Patterns.{column_at}
 use Rattle.pp_store.proofs.Applying.{IsIn-terms}
-use Rattle.pp_store.proofs.Lists.{in_get, get_any}
+use Rattle.pp_store.proofs.Lists.{in_get}
+use Rattle.pp_unify.proofs.Listed.{get_any}
 use Rattle.pp_store.proofs.Noting.{more_then, only_one}
 use Rattle.pp_store.proofs.pattern.add_all.Goals as goal
 

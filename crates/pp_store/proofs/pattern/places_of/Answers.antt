@@ -5,7 +5,7 @@ use Rattle.pp_algebra.specs.Terms.{int, variables}
 use Rattle.pp_store.specs.Occurring.{Stands}
 use Rattle.pp_store.specs.Patterns.{column_at}
 use Rattle.pp_store.proofs.Applying.{IsIn-terms}
-use Rattle.pp_store.proofs.Lists.{get_any}
+use Rattle.pp_unify.proofs.Listed.{get_any}
 use Rattle.pp_store.proofs.pattern.places_of.Goals as goal
 
 one_below : (k n m : ℕ) → n < m → IsIn k (n ∷ []) → k < m

@@ -4,7 +4,7 @@ use Rattle.std.proofs.lemmas.List.Elements.{All-get_or}
 use Rattle.pp_algebra.specs.Terms.{int}
 use Rattle.pp_store.specs.Patterns.{column_at}
 use Rattle.pp_store.proofs.FreshNumbers.{put_next}
-use Rattle.pp_store.proofs.Lists.{get_any}
+use Rattle.pp_unify.proofs.Listed.{get_any}
 use Rattle.pp_store.proofs.writing.write_terms.Goals as goal
 
 pub loop-i-preserved : goal.loop-i-preserved

@@ -24,4 +24,4 @@ returns-clause-taken c = λ n goal.
     let a = c.args.state.now in
     let x = c.args.span in
     let bs = join (rest (span_terms a.heap.items x)) (terms_of a.heap.items c.args.work.now.items) in
-    span_is a x.at bs (counted_all n (from goal c.args.at)) c.push_rest.new.work.items c.look.result c.look.ensures c.in_ok-push_rest.ensures.terms
+    span_is a x.at bs (counted_all n (from goal c.args.at)) c.put_rest.new.work.items c.look.result c.look.ensures c.put_rest.ensures.terms

@@ -7,7 +7,7 @@ use Rattle.pp_resolve.specs.Acts.{ActsAs}
 use Rattle.pp_resolve.specs.Engines.{goal_of, row_of, waiting}
 use Rattle.pp_resolve.proofs.Linked.{link_is, link_some, link_next, goal_there}
 use Rattle.pp_resolve.proofs.Unwinding.{earlier_all, waiting_over}
-use Rattle.pp_resolve.proofs.Woken.{Scanned, found_here, scanned_on, ended}
+use Rattle.pp_resolve.proofs.Woken.{Scanned, found_here, scanned_on, ended, found_next}
 use Rattle.pp_resolve.proofs.engine.Engine.woken.Goals as goal
 
 pub look-act-requires-clause-some : goal.look-act-requires-clause-some
@@ -83,5 +83,8 @@ loop-link-preserved c =
       scanned = scanned_on e c.requires.good i l w c.index-rest.ensures c.loop-link.found (subst (λ n. Scanned e n c.loop-link.found) up c.loop-link.invariant.scanned) g.0 g.1 waits;
     }
 
-pub returns : goal.returns
-returns c = ended c.args.self.now c.loop-link.link c.loop-link.found (omega (arith, c.loop-link-test.false)) c.loop-link.invariant.scanned
+pub returns-clause-found : goal.returns-clause-found
+returns-clause-found c = ended c.args.self.now c.loop-link.link c.loop-link.found (omega (arith, c.loop-link-test.false)) c.loop-link.invariant.scanned
+
+pub returns-clause-before : goal.returns-clause-before
+returns-clause-before c = found_next c.args.self.now c.loop-link.link c.loop-link.found (omega (arith, c.loop-link-test.false)) c.loop-link.invariant.scanned

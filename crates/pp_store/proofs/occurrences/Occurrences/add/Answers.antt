@@ -5,7 +5,7 @@ use Rattle.pp_row.specs.declared.cell.Cell.TheVariants.{Int}
 use Rattle.pp_row.specs.Cells.{cells_of, variables_in, variables_among}
 use Rattle.pp_row.proofs.Renaming.{among-cells_of}
 use Rattle.pp_row.proofs.Substituted.{among_at}
-use Rattle.pp_store.proofs.Lists.{get_any}
+use Rattle.pp_unify.proofs.Listed.{get_any}
 use Rattle.pp_store.proofs.Noting.{more_then, in_taken}
 use Rattle.pp_store.proofs.occurrences.Occurrences.add.Goals as goal
 
