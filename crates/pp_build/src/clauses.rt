@@ -6,7 +6,7 @@ ghost use Rattle.pp_algebra.specs.Texts.{same_text};
 ghost use Rattle.pp_language.specs.Printing.{name_at};
 ghost use Rattle.pp_row.specs.Columns.{trees_of};
 ghost use Rattle.pp_term.specs.Meanings.{predicate_of, goal_of};
-ghost use Rattle.pp_build.specs.Meanings.{item_of};
+ghost use Rattle.pp_query.specs.Meanings.{item_of};
 ghost use Rattle.pp_build.specs.Pieces.{tree_at, predicate_of_tree};
 ghost use Rattle.pp_build.specs.Values.{goal_from, item_from, HasCallableAt, IsGoalEntry, IsItemEntry};
 

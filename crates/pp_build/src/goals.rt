@@ -1,7 +1,7 @@
 //! Goals, items, clauses and queries, made of the parts of a sentence.
 ghost use Rattle.std.specs.Prelude.{◌≡◌, ◌<◌, All, IfOk, map, length};
 ghost use Rattle.pp_term.specs.Meanings.{predicate_of, shape_of, goal_of};
-ghost use Rattle.pp_build.specs.Meanings.{item_of};
+ghost use Rattle.pp_query.specs.Meanings.{item_of};
 ghost use Rattle.pp_build.specs.Values.{shape_by, goal_from, item_from, HasCallableAt, IsGoalEntry, IsItemEntry};
 
 use crate::terms::{callable_at, term_at};

@@ -1,5 +1,5 @@
 -- A seat's entries among those of others, and facts of answers.
-use Rattle.std.proofs.Common.{◌≡◌, ◌≢◌, ℕ, nat_eq, Bool, true, false, cond, List, [], ◌∷◌, ◌++◌, refl, ap, ◌∙◌, ⊎_elim, ne_eqb, eq-eqb, Result, Ok, Err, IfOk, OnErr, OnOk, Option, Some, None, IfSome, IfNone}
+use Rattle.std.proofs.Common.{◌≡◌, ◌≢◌, ℕ, nat_eq, Bool, true, false, cond, List, [], ◌∷◌, ◌++◌, refl, ap, ◌∙◌, ⊎_elim, ne_eqb, eq-eqb, Result, Ok, Err, IfOk, Option, Some, None, IfSome, IfNone}
 use Rattle.std.proofs.lemmas.List.{append_assoc}
 use Rattle.pp_core.specs.declared.entry.EntryOf.{EntryOf}
 use Rattle.pp_turn.specs.Logs.{Each, Adds}
@@ -36,11 +36,7 @@ longer_log bearer n seen old now later is = ⊎_elim
     (λ (same : now ≡ old). (later, same ∙ is))
     (λ (one : (e : _) × (now ≡ old ++ e ∷ []) × (bearer e ≡ n)). (later ++ one.0 ∷ [], one.1 ∙ (ap (λ l. l ++ one.0 ∷ []) is ∙ append_assoc seen later (one.0 ∷ []))))
 
--- a fact of what was answered leads to another
-pub if_ok : {A E : Type 0} (P Q : A → Type 0) (r : Result A E) → ((a : A) → P a → Q a) → IfOk r P → IfOk r Q
-if_ok P Q (Ok a) f h = f a h
-if_ok P Q (Err e) f h = tt
-
+-- facts of what was answered
 pub both_ok : {A E : Type 0} (P Q : A → Type 0) (r : Result A E) → IfOk r P → IfOk r Q → IfOk r (λ a. P a × Q a)
 both_ok P Q (Ok a) p q = (p, q)
 both_ok P Q (Err e) p q = tt
@@ -52,14 +48,3 @@ if_some P Q None f h = tt
 pub if_none : {A : Type 0} (P Q : Type 0) (o : Option A) → (P → Q) → IfNone o P → IfNone o Q
 if_none P Q (Some a) f h = tt
 if_none P Q None f h = f h
-
-pub on_ok : {A E : Type 0} (P Q : Type 0) (r : Result A E) → (P → Q) → OnOk r P → OnOk r Q
-on_ok P Q (Ok a) f h = f h
-on_ok P Q (Err e) f h = tt
-
-pub on_err : {A E : Type 0} (P Q : Type 0) (r : Result A E) → (P → Q) → OnErr r P → OnErr r Q
-on_err P Q (Ok a) f h = tt
-on_err P Q (Err e) f h = f h
-
-pub from_some : {A B : Type 0} (f : A → B) (x y : A) → Some x ≡ Some y → f x ≡ f y
-from_some f x y e = let same : x ≡ y = cc in ap f same

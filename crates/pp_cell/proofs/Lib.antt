@@ -3,3 +3,4 @@ pub mod Entries
 pub mod Gathered
 pub mod Replays
 pub mod Rows
+pub mod Turned

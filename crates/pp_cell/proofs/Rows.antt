@@ -11,22 +11,10 @@ module _ {A : Type 0} where
   front [] x lt e = absurd (omega arith)
   front (y ∷ ys) x lt e = ap (λ (z : A). z ∷ ys) (sym e)
 
-  pub nothing : (xs : List A) → length xs ≡ 0 → xs ≡ []
-  nothing [] e = refl
-  nothing (x ∷ xs) e = absurd (omega arith)
-
   pub shift : (xs ys : List A) (y : A) → xs ++ y ∷ ys ≡ (xs ++ y ∷ []) ++ ys
   shift xs ys y = sym (append_assoc xs (y ∷ []) ys)
 
 module _ {A B : Type 0} (f : A → B) where
-  pub map_snoc : (xs : List A) (x : A) → map f (xs ++ x ∷ []) ≡ map f xs ++ f x ∷ []
-  map_snoc [] x = refl
-  map_snoc (y ∷ ys) x = ap (λ (l : List B). f y ∷ l) (map_snoc ys x)
-
-  pub length_map : (xs : List A) → length (map f xs) ≡ length xs
-  length_map [] = refl
-  length_map (x ∷ xs) = ap suc (length_map xs)
-
   pub map_at : (xs : List A) (i : ℕ) (x : A) → slice_get xs i ≡ Some x → slice_get (map f xs) i ≡ Some (f x)
   map_at [] i x e = let no : ⊥ = cc in absurd no
   map_at (y ∷ ys) zero x e = let same : y ≡ x = cc in ap (λ (z : A). Some (f z)) same

@@ -1,5 +1,5 @@
 //! The clauses of a program.
-ghost use Rattle.std.specs.Prelude.{◌≡◌, ◌+◌, ◌≤◌, ◌<◌, ◌^◌, ℕ, ◌++◌, [], ◌∷◌, Some, length, map, slice_get, OnOk, IfOk, OnErr, IfSome, MatchOption};
+ghost use Rattle.std.specs.Prelude.{◌≡◌, true, ◌+◌, ◌≤◌, ◌<◌, ◌^◌, ℕ, ◌++◌, [], ◌∷◌, Some, length, map, slice_get, OnOk, IfOk, OnErr, IfSome, MatchOption};
 ghost use Rattle.pp_algebra.specs.Canon.{place as place_in};
 ghost use Rattle.pp_row.specs.Columns.{trees_of};
 ghost use Rattle.pp_row.specs.Reading.{IsForest, forest};
@@ -186,6 +186,19 @@ impl Clauses {
             self.groups[predicate].place_from(first, from)
         } else {
             None
+        }
+    }
+
+    /// Whether it is known that no clause from this place on may match a goal with this first argument. It looks at
+    /// no more than a few.
+    pub fn is_end(&self, predicate: u32, first: First, from: u32) -> bool
+        ensures { result ≡ true → (p : PredValue) → Names self.now predicate p → AreLeftOut first (program self.now (predicate_of p)) from (length (program self.now (predicate_of p))) }
+    {
+        let predicate = predicate as usize;
+        if predicate < self.groups.len() {
+            self.groups[predicate].is_end(first, from)
+        } else {
+            true
         }
     }
 

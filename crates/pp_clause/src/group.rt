@@ -1,5 +1,5 @@
 //! The clauses of one predicate, with an index by first argument.
-ghost use Rattle.std.specs.Prelude.{◌≡◌, ◌+◌, ◌<◌, ◌^◌, ◌++◌, [], ◌∷◌, Some, length, slice_get, IfOk, OnOk, OnErr, IfSome, MatchOption};
+ghost use Rattle.std.specs.Prelude.{◌≡◌, true, ◌+◌, ◌<◌, ◌^◌, ◌++◌, [], ◌∷◌, Some, length, slice_get, IfOk, OnOk, OnErr, IfSome, MatchOption};
 ghost use Rattle.pp_clause.specs.Table.{AreOut, IsNextTop};
 
 use crate::First;
@@ -74,5 +74,12 @@ impl Group {
         ensures small { IfSome result (λ place. place + 1 < 2 ^ 32) }
     {
         self.index.place_from(first, from)
+    }
+
+    /// Whether it is known that no top from this place on may match. It looks at no more than a few.
+    pub(crate) fn is_end(&self, first: First, from: u32) -> bool
+        ensures { result ≡ true → AreOut first self.now.1 from (length self.now.1) }
+    {
+        self.index.is_end(first, from)
     }
 }

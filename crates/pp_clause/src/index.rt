@@ -1,5 +1,5 @@
 //! An index by first argument.
-ghost use Rattle.std.specs.Prelude.{◌≡◌, ◌+◌, ◌<◌, ◌≤◌, ◌^◌, ℕ, ◌++◌, [], ◌∷◌, List, length, IfOk, OnOk, OnErr, IfSome, MatchOption, slice_index};
+ghost use Rattle.std.specs.Prelude.{◌≡◌, true, ◌+◌, ◌<◌, ◌≤◌, ◌^◌, ℕ, ◌++◌, [], ◌∷◌, List, length, IfOk, OnOk, OnErr, IfSome, MatchOption, slice_index};
 ghost use Rattle.pp_clause.specs.declared.first.First.{First as FirstValue};
 ghost use Rattle.pp_clause.specs.Firsts.{may_be as may_be_of};
 ghost use Rattle.pp_clause.specs.Index.{lists_of, list_at, IsIndex, Ascends, IsNextIn, places_of, earlier as earlier_of};
@@ -117,6 +117,22 @@ impl Index {
             return None;
         }
         self.indexed(first, end as u32)
+    }
+
+    /// Whether it is known that no top from this place on may match. It looks at no more than a few.
+    pub(crate) fn is_end(&self, first: First, from: u32) -> bool
+        ensures { result ≡ true → AreOut first self.now from (length self.now) }
+    {
+        let end = self.tops.len();
+        if end > from as usize + FEW {
+            return false;
+        }
+        for place in from as usize..end {
+            if may_be(first, self.tops[place]) {
+                return false;
+            }
+        }
+        true
     }
 }
 

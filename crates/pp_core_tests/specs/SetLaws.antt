@@ -1,7 +1,7 @@
 -- Laws of sets as bits.
 use Rattle.std.specs.Prelude.{◌≡◌, ℕ, zero, suc, ◌≤◌, max, true, cond, bit_or, nat_eq, List, [], ◌∷◌, get_or}
-use Rattle.std.proofs.Common.{ap, sym, ◌∙◌, lit<, subst, eqb→eq}
-use Rattle.std.proofs.Math.Nat.{le_antisymm, le_trans, max-le, le-max_left, le-max_right}
+use Rattle.std.proofs.Common.{ap, sym, ◌∙◌, lit<, subst, eqb→eq, arith}
+use Rattle.std.proofs.Math.Nat.{le_trans}
 use Rattle.std.proofs.lemmas.Nat.{or_of_8, le_or_l}
 use Rattle.std.specs.Int.{bit_at}
 use Rattle.std.proofs.lemmas.Nat.Bits.{bit_at_or, same_from_bits}
@@ -15,14 +15,10 @@ none_is_set = lit< tt
 pub or_is_set : (a b : ℕ) → IsSet a → IsSet b → IsSet (bit_or a b)
 or_is_set = or_of_8
 
-max_grouped : (a b c : ℕ) → max (max a b) c ≡ max a (max b c)
-max_grouped a b c = le_antisymm
-    (max-le (max-le (le-max_left a (max b c)) (le_trans (le-max_left b c) (le-max_right a (max b c)))) (le_trans (le-max_right b c) (le-max_right a (max b c))))
-    (max-le (le_trans (le-max_left a b) (le-max_left (max a b) c)) (max-le (le_trans (le-max_right a b) (le-max_left (max a b) c)) (le-max_right (max a b) c)))
-
 pub or_grouped : (a b c : ℕ) → bit_or (bit_or a b) c ≡ bit_or a (bit_or b c)
 or_grouped a b c = same_from_bits _ _ (λ i.
-    bit_at_or (bit_or a b) c i ∙ ap (λ n. max n (bit_at c i)) (bit_at_or a b i) ∙ max_grouped (bit_at a i) (bit_at b i) (bit_at c i)
+    let grouped : max (max (bit_at a i) (bit_at b i)) (bit_at c i) ≡ max (bit_at a i) (max (bit_at b i) (bit_at c i)) = omega arith in
+    bit_at_or (bit_or a b) c i ∙ ap (λ n. max n (bit_at c i)) (bit_at_or a b i) ∙ grouped
     ∙ sym (bit_at_or a (bit_or b c) i ∙ ap (λ n. max (bit_at a i) n) (bit_at_or b c i)))
 
 stays : (a b : ℕ) → bit_or a b ≡ b → is_settled a ≡ true → is_settled b ≡ true

@@ -1,23 +1,15 @@
 -- Each step on a deque keeps its rule.
-use Rattle.std.proofs.Common.{◌≡◌, ◌≢◌, ◌⊎◌, ℕ, suc, zero, ◌+◌, ◌-◌, min, List, [], ◌∷◌, ◌++◌, Bool, true, false, true≢false, cond, refl, sym, ap, ◌∙◌, subst, ⊎_elim, set, arith, append_assoc, inl, inr, flat_map}
+use Rattle.std.proofs.Common.{◌≡◌, ◌≢◌, ◌⊎◌, ℕ, suc, zero, ◌+◌, ◌-◌, min, List, [], ◌∷◌, ◌++◌, Bool, true, false, true≢false, cond, refl, sym, ap, ◌∙◌, subst, ⊎_elim, set, arith, append_assoc, inl, flat_map}
 use mathlib.Core.Option.{some, some-injective, some-ne-none}
 use lib.ListN.{get_elem?}
 use Rattle.crossbeam_deque.specs.Tasks.{Pushes, Takes, Forks, Merges, Learns, Finds, FindsFew}
-use Rattle.crossbeam_deque.proofs.Lists.{at_snoc}
+use Rattle.std.proofs.lemmas.Bool.{both_ways, cases_Bool, false≢true}
+use Rattle.crossbeam_deque.proofs.Lists.{at_snoc, set_here}
+use Rattle.crossbeam_deque.proofs.Phases.{at_lt}
 use Rattle.pp_deal.specs.declared.tally.Tally.{Tally}
 use Rattle.pp_deal.specs.Dealt.{tally, idle, weigh, outs, Fits, Dealt, AsOften, AreAccounted, AllGone}
 use Rattle.pp_deal.specs.Steps.{HeldNone, offers, takes, has_taken, takes_left, left_of, LeavesNone, gives, given, takes_in, Accounts}
-use Rattle.pp_deal.proofs.Weights.{weigh_set, weigh_append, weigh_snoc, weigh_flat, all_set, set_mine, none_weighs, only_one, rest_is}
-
-no_way : {P : Type 0} → false ≡ true → P
-no_way e = absurd (true≢false (sym e))
-
-both_ways : {P : Type 0} (b : Bool) → b ≡ true → b ≡ false → P
-both_ways b t f = no_way (sym f ∙ t)
-
-cases : (b : Bool) → (b ≡ true) ⊎ (b ≡ false)
-cases true = inl refl
-cases false = inr refl
+use Rattle.pp_deal.proofs.Weights.{weigh_set, weigh_append, weigh_snoc, weigh_flat, all_set, none_weighs, only_one, rest_is}
 
 abbrev bit : Bool → ℕ
 bit b = cond b 1 0
@@ -37,7 +29,7 @@ module _ {T : Type 0} where
   begins = record { hand = 0; offered = []; gone = []; all = refl; counts = λ h. refl; each = λ j v e. one j v e }
     where
       one : (j : ℕ) (v : Tally T) → get_elem? (tally true false 0 [] [] ∷ []) j ≡ some v → Fits 0 [] (tally true false 0 [] [] ∷ []) j v
-      one zero v e = subst (Fits 0 [] (tally true false 0 [] [] ∷ []) 0) (some-injective _ v e) record { leads = λ _. (refl, refl, refl); rests = λ f. no_way (sym f) }
+      one zero v e = subst (Fits 0 [] (tally true false 0 [] [] ∷ []) 0) (some-injective _ v e) record { leads = λ _. (refl, refl, refl); rests = λ f. absurd (true≢false f) }
       one (suc j) v e = absurd (some-ne-none v (sym e))
 
   pub offers_keep : (place : ℕ) (v : Tally T) (xs : List T) → v.leads ≡ true → Pushes Dealt place v xs (offers v xs)
@@ -54,7 +46,7 @@ module _ {T : Type 0} where
           all = ap (λ l. l ++ xs) h.all ∙ append_assoc h.gone items xs;
           counts = λ k. let t = weigh_set (weight_of k) views place v w at in let c = h.counts k in omega arith;
           each = all_set (Fits h.hand (h.offered ++ xs) vs) views place w
-              record { leads = λ _. (mine.0, ap (λ l. l ++ xs) mine.1, same ∙ mine.2); rests = λ f. both_ways v.leads leads f }
+              record { leads = λ _. (mine.0, ap (λ l. l ++ xs) mine.1, same ∙ mine.2); rests = λ f. absurd (both_ways v.leads f leads) }
               (λ j u other e. record { leads = λ b. absurd (other (((h.each j u e).leads b).0 ∙ sym mine.0)); rests = (h.each j u e).rests });
         },
         refl,
@@ -74,7 +66,7 @@ module _ {T : Type 0} where
         each = all_set (Fits h.hand h.offered vs) views place w
             record {
               leads = λ b. let m = (h.each place v at).leads b in (m.0, m.1, same ∙ m.2);
-              rests = λ f g. ⊎_elim (λ b. both_ways v.leads b f) (λ l. both_ways v.is_out l g) may;
+              rests = λ f g. ⊎_elim (λ b. absurd (both_ways v.leads f b)) (λ l. absurd (both_ways v.is_out g l)) may;
             }
             (λ j u other e. let f = h.each j u e in record { leads = λ b. let m = f.leads b in (m.0, m.1, same ∙ m.2); rests = f.rests });
       }
@@ -98,7 +90,7 @@ module _ {T : Type 0} where
       let more : outs (vs ++ given v ∷ []) ≡ v.peeks + 1 = (let m = mine.2 in omega arith) in
       let P : ℕ → Tally T → Type 0 = Fits h.hand h.offered (vs ++ given v ∷ []) in
       let old : (j : ℕ) (u : Tally T) → get_elem? vs j ≡ some u → P j u = all_set P views place (gives v)
-      record { leads = λ _. (mine.0, mine.1, more); rests = λ f. both_ways v.leads leads f }
+      record { leads = λ _. (mine.0, mine.1, more); rests = λ f. absurd (both_ways v.leads f leads) }
       (λ j u other e. record { leads = λ b. absurd (other (((h.each j u e).leads b).0 ∙ sym mine.0)); rests = (h.each j u e).rests }) in
       record {
         hand = h.hand;
@@ -106,7 +98,7 @@ module _ {T : Type 0} where
         gone = h.gone;
         all = h.all;
         counts = λ k. let t = weigh_set (weight_of k) views place v (gives v) at in let s = weigh_snoc (weight_of k) vs (given v) in let c = h.counts k in omega arith;
-        each = λ j u e. ⊎_elim (old j u) (λ (is : given v ≡ u). subst (P j) is record { leads = λ b. no_way b; rests = λ _ g. no_way (sym g) }) (at_snoc vs (given v) u j e);
+        each = λ j u e. ⊎_elim (old j u) (λ (is : given v ≡ u). subst (P j) is record { leads = λ b. absurd (false≢true b); rests = λ _ g. absurd (true≢false g) }) (at_snoc vs (given v) u j e);
       }
 
   pub merges : (place : ℕ) (v : Tally T) (other : ℕ) (w : Tally T) → v.leads ≡ true → w.leads ≡ false → w.is_out ≡ true → Merges Dealt place v other w (takes_in v w) idle
@@ -129,9 +121,9 @@ module _ {T : Type 0} where
             let b = weigh_set (weight_of k) vs other w idle at' in
             let c = h.counts k in
             omega (arith, weigh_append k v.taken w.taken);
-        each = all_set P vs other idle record { leads = λ b. no_way b; rests = λ _ _. refl }
+        each = all_set P vs other idle record { leads = λ b. absurd (false≢true b); rests = λ _ _. refl }
             (λ j u apart e. all_set (λ i x. i ≢ other → P i x) views place both
-            (λ _. record { leads = λ _. (mine.0, mine.1, fewer); rests = λ f. both_ways v.leads leads f })
+            (λ _. record { leads = λ _. (mine.0, mine.1, fewer); rests = λ f. absurd (both_ways v.leads f leads) })
             (λ i x o e' _. record { leads = λ b. absurd (o (((h.each i x e').leads b).0 ∙ sym mine.0)); rests = (h.each i x e').rests })
             j u e apart);
       }
@@ -144,7 +136,7 @@ module _ {T : Type 0} where
       let nothing : (j : ℕ) (u : Tally T) → j ≢ place → get_elem? views j ≡ some u → u.taken ≡ [] = (λ j u o e. ⊎_elim
       (λ b. absurd (o (((h.each j u e).leads b).0 ∙ sym mine.0)))
       (λ b. (h.each j u e).rests b (is_back u.is_out (quiet j u e)))
-      (cases u.leads)) in (
+      (cases_Bool u.leads)) in (
         h.gone,
         mine.1 ∙ h.all,
         λ k. sym (only_one (weight_of k) views place v at (λ j u o e. ap (weigh k) (nothing j u o e))) ∙ h.counts k,
@@ -157,7 +149,7 @@ module _ {T : Type 0} where
   takes_left_keep place v leads none xs items views _ _ h at =
       let w : Tally T = has_taken v xs in
       let after = taken_keeps place v xs items views (inl leads) h at in
-      let now = left_is place w leads none items (set views place w) after (set_mine views place v w at) in
+      let now = left_is place w leads none items (set views place w) after (set_here views place w (at_lt views place v at)) in
       (w, after, (refl, left_is place v leads none (xs ++ items) views h at ∙ ap (λ (l : List T). xs ++ l) (sym now)))
 
   pub leaves_none : (place : ℕ) (v : Tally T) → v.leads ≡ true → v.peeks ≡ 0 → Finds Dealt place v (LeavesNone v)

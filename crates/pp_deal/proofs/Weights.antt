@@ -25,11 +25,6 @@ module _ {X : Type 0} where
       (λ (is : (j ≢ i) × (get_elem? xs j ≡ some x)). others j x is.0 is.1)
       (at_set xs i j y x e)
 
-  pub set_mine : (xs : List X) (i : ℕ) (x y : X) → get_elem? xs i ≡ some x → get_elem? (set xs i y) i ≡ some y
-  set_mine [] i x y e = absurd (some-ne-none x (sym e))
-  set_mine (z ∷ zs) zero x y e = refl
-  set_mine (z ∷ zs) (suc i) x y e = set_mine zs i x y e
-
   -- one part of a sum that is nothing
   pub none_weighs : (f : X → ℕ) (xs : List X) → weigh f xs ≡ 0 → (i : ℕ) (x : X) → get_elem? xs i ≡ some x → f x ≡ 0
   none_weighs f [] z i x e = absurd (some-ne-none x (sym e))

@@ -8,7 +8,7 @@ use Rattle.pp_sld.specs.Lattice.{LeavesUnder}
 use Rattle.pp_sld.specs.Verdicts.{Mode}
 use Rattle.pp_sld.specs.Findings.{Finding}
 use Rattle.pp_sld.specs.Works as works
-use Rattle.pp_sld.specs.Works.{Level, Work, spent, at, places, worth, path_worth, work_of, next_levels, siblings, IsLater}
+use Rattle.pp_sld.specs.Works.{Level, Work, spent, at, worth, path_worth, next_levels, siblings, IsLater}
 use Rattle.pp_sld.specs.Reports.{HasWalked}
 use Rattle.pp_sld.proofs.Trees.{tree, tree_is, tree-IsSearch}
 use Rattle.pp_sld.proofs.Standing.{path_misses_leaves}

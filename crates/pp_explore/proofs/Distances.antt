@@ -1,12 +1,13 @@
 -- How far it is to the end of a search.
-use Rattle.std.proofs.Common.{◌≡◌, ℕ, zero, suc, ◌+◌, ◌*◌, ◌<◌, ◌≤◌, arith, List, [], ◌∷◌, ◌++◌, length, ap, sym, ◌∙◌, ◌⊎◌, inl, inr, length-append}
+use Rattle.std.proofs.Common.{◌≡◌, ℕ, zero, suc, ◌+◌, ◌*◌, ◌<◌, ◌≤◌, arith, List, [], ◌∷◌, ◌++◌, length, ap, ◌⊎◌, inl, inr, length-append}
 use Rattle.pp_sld.specs.Goals.{Program, Config}
 use Rattle.pp_sld.specs.Ways.{Way, choices, next}
-use Rattle.pp_sld.specs.Trees.{Searches, no_more, child, failed, AreSearches}
+use Rattle.pp_sld.specs.Trees.{Search, Searches, answer, loose, refused, passed, choice, no_more, child, failed}
 use Rattle.pp_sld.specs.Trace.{trace, trace_all}
-use Rattle.pp_sld.specs.Paths.{kids, skip, count_kids}
+use Rattle.pp_sld.specs.Paths.{kids, skip, count_kids, ComesTo}
 use Rattle.pp_sld.specs.Works.{Level, siblings}
 use Rattle.pp_sld.specs.Reach.{Chosen}
+use Rattle.pp_sld.proofs.Standing.{stands_root, stands_choice}
 use Rattle.pp_sld.proofs.Trees.{tree, choice_tree, goes_at}
 use Rattle.pp_explore.specs.Standing.{back_by}
 use Rattle.pp_explore.specs.Searching.{size, owed, owed_here}
@@ -28,12 +29,15 @@ one_fewer (failed ts) zero = inr (omega arith)
 one_fewer (child t ts) (suc k) = elim (one_fewer ts k) [ inl h ↦ inl (omega (arith, h)) | inr h ↦ inr h ]
 one_fewer (failed ts) (suc k) = elim (one_fewer ts k) [ inl h ↦ inl (omega (arith, h)) | inr h ↦ inr h ]
 
-module _ (clauses : Program) where
-  pub count_all : (ts : Searches) (ws : List Way) → AreSearches clauses ws ts → count_kids ts ≡ length ws
-  count_all no_more ws h = sym (ap length h)
-  count_all (child t ts) ws h = ap suc (count_all ts h.1 h.6) ∙ sym (ap length h.2)
-  count_all (failed ts) ws h = ap suc (count_all ts h.1 h.4) ∙ sym (ap length h.2)
+-- a tree that comes to a choice of n alternatives has n children
+kids_there : (n : ℕ) (t : Search) → ComesTo n t → count_kids (kids t) ≡ n
+kids_there n (answer c) h = absurd h
+kids_there n (loose c) h = absurd h
+kids_there n refused h = absurd h
+kids_there n (passed t) h = kids_there n t h
+kids_there n (choice ts) h = h
 
+module _ (clauses : Program) where
   pub smaller : (c : Config) (now end : ℕ) → now < end → size clauses c (suc now) end < size clauses c now end
   smaller c now end h = elim (one_fewer (kids (tree clauses c)) now) [
     | inl k ↦ omega (arith, h, k, fewer (kids (tree clauses c)) now)
@@ -49,8 +53,8 @@ module _ (clauses : Program) where
   -- a choice of as many alternatives as there are
   pub size_whole : (c : Config) (ws : List Way) (n : ℕ) → next clauses c ≡ choices ws → n ≡ length ws → size clauses c 0 n ≡ 3 * length (trace (tree clauses c))
   size_whole c ws n e k =
-      let a = choice_tree clauses c ws e in
-      omega (arith, k, ap length a.0, count_all (kids (tree clauses c)) ws a.1)
+      let comes : ComesTo (length ws) (tree clauses c) = stands_choice clauses c [] c ws (stands_root clauses c) e in
+      omega (arith, k, ap length (choice_tree clauses c ws e).0, kids_there (length ws) (tree clauses c) comes)
 
   -- ===== back
 

@@ -1,5 +1,5 @@
 -- How turns make up a search, and what is left of it.
-use Rattle.std.proofs.Common.{◌≡◌, ◌<◌, ℕ, zero, suc, arith, get_or, All, Bool, true, false, ◌||◌, List, [], ◌∷◌, ◌++◌, Option, Some, None, refl, ap, sym, ◌∙◌, subst, append_assoc}
+use Rattle.std.proofs.Common.{◌≡◌, ◌<◌, ℕ, zero, suc, arith, get_or, All, List, [], ◌∷◌, ◌++◌, Option, Some, None, refl, ap, sym, ◌∙◌, subst, append_assoc}
 use Rattle.pp_sld.specs.Goals.{Program}
 use Rattle.pp_sld.specs.Trees.{Search}
 use Rattle.pp_sld.specs.Trace.{Leaf}
@@ -13,32 +13,11 @@ use Rattle.pp_sld.proofs.LaterWorks.{split_is_later, later_through}
 use Rattle.pp_walk.specs.Places.{Place}
 use Rattle.pp_path.specs.declared.levels.Level.{Level as CodeLevel}
 use Rattle.pp_path.specs.Works.{work_by}
-use Rattle.pp_stop.specs.declared.up.Up.TheVariants.{No}
-use Rattle.pp_stop.specs.Words.{up_of}
 use Rattle.pp_explore.specs.Standing.{StaysOver}
 use Rattle.pp_explore.specs.Exploring.{add_leaves}
 use Rattle.pp_explore.specs.Searching.{State, Keeps, HasSearched}
 use Rattle.pp_explore.proofs.Added.{add_leaves-append}
 use Rattle.pp_explore.proofs.Turns.{keeps_same}
-
--- ===== the stop word
-
-pub no_bit : (a b : Bool) → up_of a b ≡ No → (a || b) ≡ false
-no_bit true b e = absurd (cc e)
-no_bit false true e = absurd (cc e)
-no_bit false false e = refl
-
-pub some_bit : (a b : Bool) → (a || b) ≡ true → up_of a b ≡ No → ⊥
-some_bit true b h e = (cc e)
-some_bit false true h e = (cc e)
-some_bit false false h e = (cc h)
-
--- bits that were seen are still seen
-pub still_some : (a b c d : Bool) → (a ≡ true → c ≡ true) → (b ≡ true → d ≡ true) → (a || b) ≡ true → (c || d) ≡ true
-still_some true b c d f g h = ap (λ x. x || d) (f refl)
-still_some false true true d f g h = refl
-still_some false true false d f g h = g refl
-still_some false false c d f g h = absurd (cc h)
 
 -- ===== what is left is split
 

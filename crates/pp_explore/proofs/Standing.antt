@@ -61,11 +61,11 @@ module _ (clauses : Program) where
     | inr k ↦ elim k [ inl e ↦ inl e | inr d ↦ inr (inr (inr (inr d))) ]
   ])
 
-  pub comes_answer : (p q : Place) (a : Row) → Stepped clauses p (Answer a) q → Comes clauses q.here None
-  comes_answer p q a h = subst (λ (x : Place). Comes clauses x.here None) (sym h.2) (inr (inl h.0))
+  pub comes_answer : (p q : Place) → Stepped clauses p Answer q → Comes clauses q.here None
+  comes_answer p q h = subst (λ (x : Place). Comes clauses x.here None) (sym h.1) (inr (inl h.0))
 
-  pub comes_loose : (p q : Place) (a : Row) → Stepped clauses p (Loose a) q → Comes clauses q.here None
-  comes_loose p q a h = subst (λ (x : Place). Comes clauses x.here None) (sym h.2) (inr (inr (inl h.0)))
+  pub comes_loose : (p q : Place) → Stepped clauses p Loose q → Comes clauses q.here None
+  comes_loose p q h = subst (λ (x : Place). Comes clauses x.here None) (sym h.1) (inr (inr (inl h.0)))
 
   pub slice_none : (ws : List Way) (k : ℕ) → length ws ≤ k → slice_get ws k ≡ None
   slice_none [] zero h = refl

@@ -6,7 +6,7 @@ use Rattle.std.proofs.Math.Seq.{take-length}
 use Rattle.pp_algebra.specs.Rows.{Row}
 use Rattle.pp_sld.specs.Goals.{Program, Config}
 use Rattle.pp_sld.specs.Trace.{Leaf, answers_with, loose_with, met}
-use Rattle.pp_sld.specs.Leaves.{row_at}
+use Rattle.pp_sld.specs.Leaves.{leaf_row, row_at}
 use Rattle.pp_sld.specs.Verdicts.{Mode}
 use Rattle.pp_sld.specs.Findings.{Finding}
 use Rattle.pp_sld.specs.Lattice.{IsUnder, LeavesUnder, add_answer, add_loose}
@@ -286,11 +286,11 @@ module _ (clauses : Program) where
       ]
     ]
 
-    pub answer_path : (p q : Place) (ks : List ℕ) (a : Row) (root : Config) → Stepped clauses p (Answer a) q → StandsOver clauses root p ks → at_path ks (tree clauses root) ≡ answers_with p.here ∷ []
-    answer_path p q ks a root h s = stands_answer clauses root ks p.here s.0 h.0
+    pub answer_path : (p q : Place) (ks : List ℕ) (root : Config) → Stepped clauses p Answer q → StandsOver clauses root p ks → at_path ks (tree clauses root) ≡ answers_with p.here ∷ []
+    answer_path p q ks root h s = stands_answer clauses root ks p.here s.0 h.0
 
-    pub loose_path : (p q : Place) (ks : List ℕ) (a : Row) (root : Config) → Stepped clauses p (Loose a) q → StandsOver clauses root p ks → at_path ks (tree clauses root) ≡ loose_with p.here ∷ []
-    loose_path p q ks a root h s = stands_loose clauses root ks p.here s.0 h.0
+    pub loose_path : (p q : Place) (ks : List ℕ) (root : Config) → Stepped clauses p Loose q → StandsOver clauses root p ks → at_path ks (tree clauses root) ≡ loose_with p.here ∷ []
+    loose_path p q ks root h s = stands_loose clauses root ks p.here s.0 h.0
 
     -- a leaf of the work lies under the call
     pub leaf_under : (p : Place) (ks : List ℕ) (w : Work) (f : Finding) (l : Leaf) → PathIs clauses p ks w (l ∷ []) → IsReady clauses call (state Enter p ks w f) → IsUnder call (row_at l)
@@ -336,21 +336,21 @@ module _ (clauses : Program) where
       pub failed_turns : Stepped clauses p Failed q → GivesUp clauses q ks w 0 t o js v → IsReady clauses call (state Enter p ks w f) → g ≡ f → Turns clauses m call (state Enter p ks w f) t o js v g
       failed_turns h u r e = given_up p q o ks js w v t f g [] h.1 u r (entered_path p ks w [] r.fits (λ root s. failed_path p q ks root h s)) e
 
-      pub answer_turns : (a : Row) → Stepped clauses p (Answer a) q → GivesUp clauses q ks w 0 t o js v → IsReady clauses call (state Enter p ks w f) → g ≡ add_answer m a f → Turns clauses m call (state Enter p ks w f) t o js v g
-      answer_turns a h u r e =
-          given_up p q o ks js w v t f g (answers_with p.here ∷ []) h.2 u r (entered_path p ks w (answers_with p.here ∷ []) r.fits (λ root s. answer_path p q ks a root h s)) (e ∙ ap (λ x. add_answer m x f) h.1)
+      pub answer_turns : (q' : Place) → q' ≡ q → Stepped clauses p Answer q → GivesUp clauses q' ks w 0 t o js v → IsReady clauses call (state Enter p ks w f) → g ≡ add_answer m (leaf_row q.here) f → Turns clauses m call (state Enter p ks w f) t o js v g
+      answer_turns q' z h u r e =
+          given_up p q' o ks js w v t f g (answers_with p.here ∷ []) (z ∙ h.1) u r (entered_path p ks w (answers_with p.here ∷ []) r.fits (λ root s. answer_path p q ks root h s)) (e ∙ ap (λ (x : Place). add_answer m (leaf_row x.here) f) h.1)
 
-      pub loose_turns : (a : Row) → Stepped clauses p (Loose a) q → GivesUp clauses q ks w 0 t o js v → IsReady clauses call (state Enter p ks w f) → g ≡ add_loose m a f → Turns clauses m call (state Enter p ks w f) t o js v g
-      loose_turns a h u r e =
-          given_up p q o ks js w v t f g (loose_with p.here ∷ []) h.2 u r (entered_path p ks w (loose_with p.here ∷ []) r.fits (λ root s. loose_path p q ks a root h s)) (e ∙ ap (λ x. add_loose m x f) h.1)
+      pub loose_turns : (q' : Place) → q' ≡ q → Stepped clauses p Loose q → GivesUp clauses q' ks w 0 t o js v → IsReady clauses call (state Enter p ks w f) → g ≡ add_loose m (leaf_row q.here) f → Turns clauses m call (state Enter p ks w f) t o js v g
+      loose_turns q' z h u r e =
+          given_up p q' o ks js w v t f g (loose_with p.here ∷ []) (z ∙ h.1) u r (entered_path p ks w (loose_with p.here ∷ []) r.fits (λ root s. loose_path p q ks root h s)) (e ∙ ap (λ (x : Place). add_loose m (leaf_row x.here) f) h.1)
 
-    pub answer_is_under : (p q : Place) (ks : List ℕ) (w : Work) (f : Finding) (a : Row) → Stepped clauses p (Answer a) q → IsReady clauses call (state Enter p ks w f) → IsUnder call a
-    answer_is_under p q ks w f a h r =
-        subst (IsUnder call) (sym h.1) (leaf_under p ks w f (answers_with p.here) (entered_path p ks w (answers_with p.here ∷ []) r.fits (λ root s. answer_path p q ks a root h s)) r)
+    pub answer_is_under : (p q : Place) (ks : List ℕ) (w : Work) (f : Finding) → Stepped clauses p Answer q → IsReady clauses call (state Enter p ks w f) → IsUnder call (leaf_row q.here)
+    answer_is_under p q ks w f h r =
+        subst (λ (x : Place). IsUnder call (leaf_row x.here)) (sym h.1) (leaf_under p ks w f (answers_with p.here) (entered_path p ks w (answers_with p.here ∷ []) r.fits (λ root s. answer_path p q ks root h s)) r)
 
-    pub loose_is_under : (p q : Place) (ks : List ℕ) (w : Work) (f : Finding) (a : Row) → Stepped clauses p (Loose a) q → IsReady clauses call (state Enter p ks w f) → IsUnder call a
-    loose_is_under p q ks w f a h r =
-        subst (IsUnder call) (sym h.1) (leaf_under p ks w f (loose_with p.here) (entered_path p ks w (loose_with p.here ∷ []) r.fits (λ root s. loose_path p q ks a root h s)) r)
+    pub loose_is_under : (p q : Place) (ks : List ℕ) (w : Work) (f : Finding) → Stepped clauses p Loose q → IsReady clauses call (state Enter p ks w f) → IsUnder call (leaf_row q.here)
+    loose_is_under p q ks w f h r =
+        subst (λ (x : Place). IsUnder call (leaf_row x.here)) (sym h.1) (leaf_under p ks w f (loose_with p.here) (entered_path p ks w (loose_with p.here ∷ []) r.fits (λ root s. loose_path p q ks root h s)) r)
 
     -- ===== an alternative that is known to fail, or is tried and fails
 

@@ -1,12 +1,12 @@
 //! A walker goes where a path leads.
-ghost use Rattle.std.specs.Prelude.{◌≡◌, ◌<◌, ◌≤◌, ℕ, List, true, false, ◌∷◌, ◌++◌, [], take, length, map, IfOk};
+ghost use Rattle.std.specs.Prelude.{◌≡◌, ◌≢◌, ◌<◌, ◌≤◌, ℕ, List, true, false, ◌∷◌, ◌++◌, [], None, take, length, map, IfOk, OnErr};
 ghost use Rattle.pp_walk.specs.Moves.{IsAtChoice};
-ghost use Rattle.pp_path.specs.Works.{level_by};
+ghost use Rattle.pp_path.specs.Works.{level_by, levels_of};
 ghost use Rattle.pp_explore.specs.Standing.{StaysOver, MissesOver, Comes, nows};
 ghost use Rattle.pp_explore.specs.Searching.{IsAbove};
 
 use crate::Walker;
-use pp_path::Level;
+use pp_path::{Level, Work};
 use pp_walk::{Event, SearchMachine, Steps};
 use std::alloc::AllocError;
 use std::marker::Brand;
@@ -42,8 +42,8 @@ impl<M: SearchMachine> Walker<M> {
                 Event::Went => {}
                 Event::Choice(count) => return Ok(Some(count)),
                 Event::Failed => return Ok(None),
-                Event::Answer(_) => return Ok(None),
-                Event::Loose(_) => return Ok(None),
+                Event::Answer => return Ok(None),
+                Event::Loose => return Ok(None),
             }
         }
     }
@@ -116,6 +116,26 @@ impl<M: SearchMachine> Walker<M> {
         let shared = self.shared(levels);
         self.back_to(shared);
         self.descend_again::<Brand>(Blank::new(1), &levels[shared..])
+    }
+
+    /// Goes where the choices of a work's path lead, from wherever it stands; false where one of them fails or isn't
+    /// there. After false and after want of memory no choice is taken: it stands where the search began, or behind
+    /// built-ins that come before the first choice.
+    pub fn replay(&mut self, work: &Work) -> Result<bool, AllocError>
+        requires open { work.now ≢ None }
+        ensures clauses { M.clauses self.new.machine ≡ M.clauses self.old.machine }
+        ensures stands { StaysOver (M.clauses self.old.machine) (M.place self.old.machine) self.old.path.items (M.place self.new.machine) self.new.path.items }
+        ensures there { IfOk result (λ goes. goes ≡ true → self.new.path.items ≡ nows (levels_of work.now)) }
+        ensures missed { IfOk result (λ goes. goes ≡ false → MissesOver (M.clauses self.old.machine) (M.place self.old.machine) self.old.path.items (nows (levels_of work.now))) }
+        ensures root { IfOk result (λ goes. goes ≡ false → self.new.path.items ≡ []) }
+        ensures err { OnErr result (self.new.path.items ≡ []) }
+    {
+        let goes = self.go_to(work.path());
+        match goes {
+            Ok(true) => {}
+            _ => self.back_to(0),
+        }
+        goes
     }
 
     /// Passes built-ins, and answers whether a choice comes.

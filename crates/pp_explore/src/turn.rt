@@ -12,7 +12,7 @@ ghost use Rattle.pp_explore.specs.Searching.{state, FitsWork, IsReady, IsPlaceOf
 use crate::Walker;
 use crate::stage::{Stage, Turned};
 use pp_path::{Level, Work};
-use pp_walk::{Event, Gatherer, SearchMachine, Steps};
+use pp_walk::{Event, Gatherer, SearchMachine, Steps, gather_answer, gather_loose};
 use std::alloc::AllocError;
 use std::sync::ledger::Ledger;
 
@@ -74,12 +74,12 @@ fn enter<M: SearchMachine, G: Gatherer, L: Ledger>(
             Ok(Turned::On(Stage::Try(0)))
         }
         Event::Failed => Ok(give_up(walker, work, 0)),
-        Event::Answer(row) => {
-            gathered.add_answer(row)?;
+        Event::Answer => {
+            gather_answer(&mut walker.machine, gathered)?;
             Ok(give_up(walker, work, 0))
         }
-        Event::Loose(row) => {
-            gathered.add_loose(row)?;
+        Event::Loose => {
+            gather_loose(&mut walker.machine, gathered)?;
             Ok(give_up(walker, work, 0))
         }
     }

@@ -3,3 +3,4 @@ pub mod Alike
 pub mod Taking
 pub mod Commons
 pub mod Kept
+pub mod Lent

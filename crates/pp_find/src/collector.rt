@@ -1,5 +1,6 @@
 //! What is known of a goal's leaves while they come in.
-ghost use Rattle.std.specs.Prelude.{◌≡◌, IfOk, OnErr};
+ghost use Rattle.std.specs.Prelude.{◌≡◌, IfOk, IfSome, OnErr};
+ghost use Rattle.pp_algebra.specs.Rows.{Row as RowValue};
 ghost use Rattle.pp_algebra.specs.Covers.{RowCovers};
 ghost use Rattle.pp_sld.specs.Findings as sld;
 ghost use Rattle.pp_sld.specs.Lattice as lattice;
@@ -70,6 +71,20 @@ impl Collector {
     {
         let Collector { findings, known } = self;
         known.add_loose(findings, row)
+    }
+
+    /// A row that covers only answers that change nothing, where there is one.
+    pub fn answer_cover(&self) -> Option<&Row>
+        ensures { IfSome result (λ cover. (row : RowValue) → lattice.IsUnder self.now.call row → RowCovers cover.now row → lattice.add_answer (mode_of self.now.mode) row (finding_by self.now.finding) ≡ finding_by self.now.finding) }
+    {
+        self.known.answer_cover(&self.findings)
+    }
+
+    /// A row that covers only loose ends that change nothing, where there is one.
+    pub fn loose_cover(&self) -> Option<&Row>
+        ensures { IfSome result (λ cover. (row : RowValue) → lattice.IsUnder self.now.call row → RowCovers cover.now row → lattice.add_loose (mode_of self.now.mode) row (finding_by self.now.finding) ≡ finding_by self.now.finding) }
+    {
+        self.known.loose_cover(&self.findings)
     }
 
     /// Whether nothing that comes in later can change the outcome.

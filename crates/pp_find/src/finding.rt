@@ -1,5 +1,9 @@
 //! Findings.
 ghost use Rattle.std.specs.Prelude.{◌≡◌, ◌↔◌, IsTrue, IfOk};
+ghost use Rattle.pp_algebra.specs.Rows.{Row as RowValue};
+ghost use Rattle.pp_sld.specs.Verdicts.{Mode as ModeValue};
+ghost use Rattle.pp_sld.specs.Lattice.{add_answer, add_loose};
+ghost use Rattle.pp_find.specs.Meanings.{finding_by, FitsIn};
 
 use crate::parts::{copy_option, copy_sole, same_options, same_soles};
 use pp_row::Row;
@@ -43,6 +47,31 @@ impl Finding {
                 loose: *loose,
             },
         })
+    }
+
+    /// Whether one answer more changes nothing, whatever its row is.
+    pub(crate) fn knows_answers(&self) -> bool
+        ensures { IsTrue result → (m : ModeValue) (call row : RowValue) → ∥ FitsIn m call self.now ∥₁ → add_answer m row (finding_by self.now) ≡ finding_by self.now }
+    {
+        match self {
+            Finding::Most { .. } => false,
+            Finding::Unique { sole, .. } => match sole {
+                Sole::Two => true,
+                _ => false,
+            },
+            Finding::Consistent { any, .. } => *any,
+        }
+    }
+
+    /// The same of one loose end more.
+    pub(crate) fn knows_loose(&self) -> bool
+        ensures { IsTrue result → (m : ModeValue) (call row : RowValue) → ∥ FitsIn m call self.now ∥₁ → add_loose m row (finding_by self.now) ≡ finding_by self.now }
+    {
+        match self {
+            Finding::Most { .. } => false,
+            Finding::Unique { loose, .. } => *loose,
+            Finding::Consistent { loose, .. } => *loose,
+        }
     }
 
     /// Whether both are one finding.

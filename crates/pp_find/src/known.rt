@@ -1,5 +1,6 @@
 //! What a collector keeps.
-ghost use Rattle.std.specs.Prelude.{◌≡◌, IfOk, OnErr};
+ghost use Rattle.std.specs.Prelude.{◌≡◌, IfOk, IfSome, OnErr};
+ghost use Rattle.pp_algebra.specs.Rows.{Row as RowValue};
 ghost use Rattle.pp_algebra.specs.Covers.{RowCovers};
 ghost use Rattle.pp_sld.specs.Findings.{empty};
 ghost use Rattle.pp_sld.specs.Lattice as lattice;
@@ -68,6 +69,42 @@ impl Known {
             Known::Other(finding) => findings.take_loose(finding, &row)?,
         }
         Ok(())
+    }
+
+    /// A row that covers only answers that change nothing, where there is one.
+    pub(crate) fn answer_cover<'a>(&'a self, findings: &'a Findings) -> Option<&'a Row>
+        requires fits { ∥ FitsIn (mode_of findings.now.mode) findings.now.call (found_by self.now) ∥₁ }
+        requires known { ∥ IsKnown findings.now.call self.now ∥₁ }
+        ensures { IfSome result (λ w. (r : RowValue) → lattice.IsUnder findings.now.call r → RowCovers w.now r → lattice.add_answer (mode_of findings.now.mode) r (finding_by (found_by self.now)) ≡ finding_by (found_by self.now)) }
+    {
+        match self {
+            Known::Most(leaves) => leaves.answer_cover(&findings.call),
+            Known::Other(finding) => {
+                if finding.knows_answers() {
+                    Some(&findings.call)
+                } else {
+                    None
+                }
+            }
+        }
+    }
+
+    /// A row that covers only loose ends that change nothing, where there is one.
+    pub(crate) fn loose_cover<'a>(&'a self, findings: &'a Findings) -> Option<&'a Row>
+        requires fits { ∥ FitsIn (mode_of findings.now.mode) findings.now.call (found_by self.now) ∥₁ }
+        requires known { ∥ IsKnown findings.now.call self.now ∥₁ }
+        ensures { IfSome result (λ w. (r : RowValue) → lattice.IsUnder findings.now.call r → RowCovers w.now r → lattice.add_loose (mode_of findings.now.mode) r (finding_by (found_by self.now)) ≡ finding_by (found_by self.now)) }
+    {
+        match self {
+            Known::Most(leaves) => leaves.loose_cover(&findings.call),
+            Known::Other(finding) => {
+                if finding.knows_loose() {
+                    Some(&findings.call)
+                } else {
+                    None
+                }
+            }
+        }
     }
 
     /// Whether nothing that comes in later can change what it comes to.

@@ -1,9 +1,9 @@
 //! What is kept of the leaves of a search with `most`.
-ghost use Rattle.std.specs.Prelude.{◌≡◌, Some, None, false, IsTrue, IfOk, OnErr};
+ghost use Rattle.std.specs.Prelude.{◌≡◌, Some, None, false, IsTrue, IfOk, IfSome, OnErr};
 ghost use Rattle.pp_algebra.specs.Rows.{Row as RowValue};
 ghost use Rattle.pp_algebra.specs.Covers.{RowCovers};
 ghost use Rattle.pp_sld.specs.Findings.{join_option};
-ghost use Rattle.pp_sld.specs.Lattice.{CoversIfSome};
+ghost use Rattle.pp_sld.specs.Lattice.{IsUnder, CoversIfSome};
 ghost use Rattle.pp_find.specs.Common.{common, IsKept};
 ghost use Rattle.pp_find.specs.declared.finding.Finding.TheVariants.{Most};
 
@@ -118,6 +118,25 @@ impl Leaves {
             return Ok(());
         }
         add_row(alloc, &mut self.loose, row)
+    }
+
+    /// The widest row of the answers, where there is one. One answer more that it covers changes nothing.
+    pub(crate) fn answer_cover(&self, _call: &Row) -> Option<&Row>
+        requires kept { ∥ IsKept _call.now self.now ∥₁ }
+        ensures { IfSome result (λ w. (r : RowValue) → IsUnder _call.now r → RowCovers w.now r → common self.now.answers.items ≡ join_option (common self.now.answers.items) (Some r)) }
+    {
+        self.answers.first()
+    }
+
+    /// The same of loose ends; where there is no answer, by the widest of their own rows.
+    pub(crate) fn loose_cover(&self, _call: &Row) -> Option<&Row>
+        requires kept { ∥ IsKept _call.now self.now ∥₁ }
+        ensures { IfSome result (λ w. (r : RowValue) → IsUnder _call.now r → RowCovers w.now r → join_option (common self.now.answers.items) (common self.now.loose.items) ≡ join_option (join_option (common self.now.answers.items) (common self.now.loose.items)) (Some r)) }
+    {
+        match self.answers.first() {
+            Some(row) => Some(row),
+            None => self.loose.first(),
+        }
     }
 
     /// What they come to.

@@ -1,10 +1,9 @@
 -- Flags of the goals whose last verdict was that they are unfinished.
-use Rattle.std.proofs.Common.{◌≡◌, ℕ, suc, ◌+◌, ◌-◌, ◌<◌, ◌≤◌, Bool, false, List, [], ◌∷◌, ◌++◌, length, get_or, set, replicate, Option, Some, None, refl, ap, sym, ◌∙◌, inl, inr, arith}
+use Rattle.std.proofs.Common.{◌≡◌, ℕ, suc, ◌+◌, ◌-◌, ◌<◌, ◌≤◌, Bool, false, List, [], ◌∷◌, ◌++◌, length, get_or, set, replicate, Some, None, refl, ap, sym, ◌∙◌, inl, inr, arith}
 use Rattle.std.specs.Prelude.{nat_eq, cond, filter}
 use Rattle.std.proofs.lemmas.Bool.{cases_eq, ne_eqb}
 use Rattle.std.proofs.lemmas.List.{get_or-set_same, get_or-set_other, get_or-replicate}
 use Rattle.pp_algebra.proofs.Bools.{nat_same}
-use Rattle.pp_sld.specs.Verdicts.{Verdict}
 use Rattle.pp_propagation.specs.Turns.{Commit}
 use Rattle.pp_propagation.specs.Histories.{last_verdict, is_unfinished, numbers_from, unfinished_goals}
 use Rattle.pp_fixpoint.proofs.Settled.{last-push}

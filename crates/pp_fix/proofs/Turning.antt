@@ -1,6 +1,7 @@
 -- Between two turns of a run, and what a turn makes of it.
 use Rattle.std.proofs.Common.{◌≡◌, ℕ, suc, ◌+◌, ◌-◌, ◌<◌, ◌≤◌, Bool, true, false, List, [], ◌∷◌, ◌++◌, length, set, replicate, Option, Some, None, All, append-nil, refl, ap, sym, ◌∙◌, subst, arith}
-use Rattle.std.specs.Prelude.{not, slice_get, Result, Ok, Err, OnErr}
+use Rattle.std.specs.Prelude.{not, slice_get}
+use Rattle.std.proofs.lemmas.Bool.{not-false, not-true}
 use Rattle.std.proofs.lemmas.List.{length_push, length-set, length-replicate}
 use Rattle.pp_algebra.specs.Rows.{Row}
 use Rattle.pp_sld.specs.Goals.{Program}
@@ -29,18 +30,10 @@ fail_is unfinished e = let f : false ≡ true = e in absurd (cc (f))
 fail_is (narrow given) e = let f : false ≡ true = e in absurd (cc (f))
 
 pub fails_by : (v : Verdict) (b : Bool) → b ≡ not (is_fail v) → b ≡ false → is_fail v ≡ true
-fails_by v b e f = not_false (is_fail v) (sym e ∙ f)
-  where
-    not_false : (c : Bool) → not c ≡ false → c ≡ true
-    not_false true g = refl
-    not_false false g = let h : true ≡ false = g in absurd (cc (h))
+fails_by v b e f = not-false (is_fail v) (sym e ∙ f)
 
 pub goes_by : (v : Verdict) (b : Bool) → b ≡ not (is_fail v) → b ≡ true → is_fail v ≡ false
-goes_by v b e f = not_true (is_fail v) (sym e ∙ f)
-  where
-    not_true : (c : Bool) → not c ≡ true → c ≡ false
-    not_true true g = let h : false ≡ true = g in absurd (cc (h))
-    not_true false g = refl
+goes_by v b e f = not-true (is_fail v) (sym e ∙ f)
 
 pub first_none : (ks : List ℕ) (r : Option ℕ) → r ≡ slice_get ks 0 → r ≡ None → ks ≡ []
 first_none [] r e f = refl
@@ -49,10 +42,6 @@ first_none (k ∷ ks) r e f = let g : Some k ≡ None = sym e ∙ f in absurd (c
 pub first_some : (ks : List ℕ) (r : Option ℕ) (x : ℕ) → r ≡ slice_get ks 0 → r ≡ Some x → (later : List ℕ) × (ks ≡ x ∷ later)
 first_some [] r x e f = let g : None ≡ Some x = sym e ∙ f in absurd (cc (g))
 first_some (k ∷ ks) r x e f = let g : Some k ≡ Some x = sym e ∙ f in let h : k ≡ x = cc (g) in (ks, ap (λ j. j ∷ ks) h)
-
-pub on_err : {A E : Type 0} (r : Result A E) (P : Type 0) → P → OnErr r P
-on_err (Ok x) P p = tt
-on_err (Err e) P p = p
 
 -- the changes of turns one after another
 changes-append : (n : ℕ) (first then : List Commit) → changes_from n (first ++ then) ≡ changes_from n first ++ changes_from (n + length first) then

@@ -1,6 +1,7 @@
 -- Between two turns each goal that doesn't wait is at rest under the store, and its last verdict is the one that it has there.
 use Rattle.std.proofs.Common.{◌≡◌, ℕ, zero, suc, ◌+◌, inl, inr, Bool, true, false, List, [], ◌∷◌, ◌++◌, length, Option, Some, None, refl, ap, sym, ◌∙◌, subst, arith}
 use Rattle.std.specs.Prelude.{cond, not, ◌&&◌, ◌||◌, nat_eq, filter}
+use Rattle.std.proofs.lemmas.Bool.{or_parts, or_right}
 use Rattle.pp_algebra.specs.Rows.{Row}
 use Rattle.pp_algebra.specs.Canon.{has, same_row}
 use Rattle.pp_algebra.specs.Covers.{IsIn}
@@ -25,14 +26,6 @@ narrowing_changes_face clauses depth store a given h e = face_changes store a.go
 
 -- ===== lists
 
-left_false : (a b : Bool) → (a || b) ≡ false → a ≡ false
-left_false true b h = h
-left_false false b h = refl
-
-right_false : (a b : Bool) → (a || b) ≡ false → b ≡ false
-right_false true b h = absurd (cc)
-right_false false b h = h
-
 -- the last verdict, once one more turn was made
 pub last-push : (before : Option Verdict) (k : ℕ) (history : List Commit) (c : Commit) → last_verdict before k (history ++ c ∷ []) ≡ cond (nat_eq c.goal k) (Some c.verdict) (last_verdict before k history)
 last-push before k [] c = refl
@@ -44,10 +37,6 @@ goal_waits first [] i k a e f = let g : None ≡ Some a = e in absurd (cc (g))
 goal_waits first (b ∷ goals) zero k a e f =
     ap (λ c. c || has nat_eq (numbers_from (suc first) (length goals)) k) (ap (nat_eq first) (let g : k ≡ first = omega (arith, f) in g) ∙ nat_same first)
 goal_waits first (b ∷ goals) (suc i) k a e f = or_right (nat_eq first k) _ (goal_waits (suc first) goals i k a e (omega (arith, f)))
-  where
-    or_right : (x y : Bool) → y ≡ true → (x || y) ≡ true
-    or_right true y h = refl
-    or_right false y h = h
 
 all_wait : (goals : List Asked) (k : ℕ) (a : Asked) → goal_at goals k ≡ Some a → has nat_eq (numbers_from 1 (length goals)) k ≡ true
 all_wait [] zero a e = let g : None ≡ Some a = e in absurd (cc (g))
@@ -91,7 +80,7 @@ module _ (old new : Row) (waiting : List ℕ) where
       absurd (cc (g))
 
   not_later : (b : Bool) (first k : ℕ) (rest : List ℕ) → has nat_eq (cond b (first ∷ rest) rest) k ≡ false → has nat_eq rest k ≡ false
-  not_later true first k rest h = right_false (nat_eq first k) (has nat_eq rest k) h
+  not_later true first k rest h = (or_parts (nat_eq first k) (has nat_eq rest k) h).1
   not_later false first k rest h = h
 
   same_face : (first : ℕ) (goals : List Asked) (i k : ℕ) (a : Asked) → goal_at goals (suc i) ≡ Some a → k ≡ first + i → has nat_eq waiting k ≡ false → has nat_eq (woken old new waiting first goals) k ≡ false → face old a.goal ≡ face new a.goal
@@ -161,9 +150,9 @@ module _ (clauses : Program) (goals : List Asked) (depth : ℕ) where
     narrows : (b : Asked) → goal_at goals c.goal ≡ Some b → (face s.store b.goal ≡ face c.store b.goal → ⊥) → IsSettled (commit s (later ++ woken s.store c.store later 1 goals) c)
     narrows b is changes k a g w =
         let waits : (has nat_eq later k || has nat_eq (woken s.store c.store later 1 goals) k) ≡ false = sym (has-append nat_eq later (woken s.store c.store later 1 goals) k) ∙ w in
-        let old = left_false (has nat_eq later k) (has nat_eq (woken s.store c.store later 1 goals) k) waits in
-        let stays = face_stays s.store c.store later goals k a g old (right_false (has nat_eq later k) (has nat_eq (woken s.store c.store later 1 goals) k) waits) in
-        go old stays (nat_eq c.goal k) refl
+        let neither = or_parts (has nat_eq later k) (has nat_eq (woken s.store c.store later 1 goals) k) waits in
+        let stays = face_stays s.store c.store later goals k a g neither.0 neither.1 in
+        go neither.0 stays (nat_eq c.goal k) refl
       where
         go : has nat_eq later k ≡ false → face s.store a.goal ≡ face c.store a.goal → (x : Bool) → nat_eq c.goal k ≡ x → IsDone (commit s (later ++ woken s.store c.store later 1 goals) c) k a
         go old stays true e = absurd (changes (subst (λ (x : Asked). face s.store x.goal ≡ face c.store x.goal) (sym (is_asked k a b is g e)) stays))

@@ -24,9 +24,6 @@ use Rattle.pp_fixpoint.specs.Fixpoints.{IsFinite}
 abbrev Inside : Domain → Domain → Type 0
 Inside e d = (n : ℤ) → set.contains e n ≡ true → set.contains d n ≡ true
 
-none_in : (d : Domain) → set.len d ≡ 0 → (n : ℤ) → set.contains d n ≡ true → ⊥
-none_in d e n h = let f : set.contains d n ≡ false = ap (λ x. set.contains x n) (set.empty_of_len d e) ∙ set.contains-empty int_cmp n in absurd (cc (f, h))
-
 len_without : (d : Domain) (n : ℤ) → set.contains d n ≡ true → set.len (set.remove d n) ≡ set.len d - 1
 len_without d n h = set.len-remove int_cmp_total d n ∙ ap (λ b. cond b (set.len d - 1) (set.len d)) h
 
@@ -61,7 +58,7 @@ fewer_or_all : (m : ℕ) (d e : Domain) → set.len e ≡ m → Inside e d → (
 fewer_or_all zero d e l h = go (set.len d) refl
   where
     go : (n : ℕ) → set.len d ≡ n → (set.len e < set.len d) ⊎ Inside d e
-    go zero f = inr (λ n i. absurd (none_in d f n i))
+    go zero f = inr (λ n i. let none : set.contains d n ≡ false = ap (λ x. set.contains x n) (set.empty_of_len d f) ∙ set.contains-empty int_cmp n in absurd (cc (none, i)))
     go (suc n) f = inl (omega (arith, f, l))
 fewer_or_all (suc m) d e l h =
     let s = some_in e (omega (arith, l)) in

@@ -15,7 +15,7 @@ pub struct Holding {
 }
 
 impl Holding {
-    /// A gate that no worker has passed yet.
+    /// A gate that no worker has passed yet. No clause says so: a contract can't speak of what an atomic flag holds.
     pub fn new(worker: u32, point: Point) -> Holding {
         Holding {
             worker,

@@ -19,7 +19,7 @@ pub struct Meeting {
 }
 
 impl Meeting {
-    /// A gate that no worker has passed yet.
+    /// A gate that no worker has passed yet. No clause says so: a contract can't speak of what an atomic flag holds.
     pub fn new() -> Meeting {
         Meeting {
             has_come: AtomicBool::new(false),
@@ -29,7 +29,8 @@ impl Meeting {
         }
     }
 
-    /// Whether a worker came to Offered, and the other one passed Reported before the limit was reached.
+    /// Whether a worker came to Offered, and the other one passed Reported before the limit was reached. No clause says
+    /// so, since the flags that it reads are atomic: a proof may rest on neither answer, and only a test uses it.
     pub fn have_met(&self) -> bool {
         self.has_met.load(Ordering::SeqCst)
     }

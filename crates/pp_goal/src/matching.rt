@@ -33,6 +33,13 @@ fn is_compound(cell: Cell) -> bool
     }
 }
 
+fn is_variable(cell: Cell) -> bool {
+    match cell {
+        Cell::Var(_) => true,
+        _ => false,
+    }
+}
+
 /// Whether a goal may match a head, by the tops of their arguments up to the first compound; what it answers false
 /// for can't. The first argument is left to the index of the clauses. It takes no memory.
 pub fn may_match(bindings: &Bindings, goal: &GoalAt<'_>, first: u32, head: &[Cell]) -> bool
@@ -42,7 +49,10 @@ pub fn may_match(bindings: &Bindings, goal: &GoalAt<'_>, first: u32, head: &[Cel
 {
     let cells = goal.arguments;
     for at in 0..cells.len().min(head.len()) {
-        if at > 0 && are_apart(bindings.first_cell(cells, at, first), head[at]) {
+        if at > 0
+            && !is_variable(head[at])
+            && are_apart(bindings.first_cell(cells, at, first), head[at])
+        {
             return false;
         }
         if is_compound(cells[at]) || is_compound(head[at]) {

@@ -42,7 +42,7 @@ domain_excludes : (t : State) (x : ℕ) (d : Option ℕ) (c : Value) (e : Domain
 domain_excludes t x d c e f q h ds s w a k =
     h ds s (subst (MayGo ds (Some e)) k (subst (λ o. MayGo ds o (s x)) q (agrees_free (store_of t) ds s x d a f.free)))
 
-int_allowed : (t : State) (x : ℕ) (d : Option ℕ) (n : ℤ) (o : Option Domain) (b : Bool) → IsFree (store_of t) x d → domain_by t.domains.items d ≡ o → IsHeld o n b → IsAllowed t x d (Int n) b
+pub int_allowed : (t : State) (x : ℕ) (d : Option ℕ) (n : ℤ) (o : Option Domain) (b : Bool) → IsFree (store_of t) x d → domain_by t.domains.items d ≡ o → IsHeld o n b → IsAllowed t x d (Int n) b
 int_allowed t x d n None true f q h = ((λ ds s e. subst (λ o. MayGo ds o (s x)) (sym q) tt), λ i. i)
 int_allowed t x d n None false f q h = absurd (cc)
 int_allowed t x d n (Some e) true f q h = ((λ ds s k. subst (λ o. MayGo ds o (s x)) (sym q) (subst (MayGo ds (Some e)) (sym k) (sym h))), λ i. i)

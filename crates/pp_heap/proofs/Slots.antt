@@ -12,6 +12,8 @@ use Rattle.pp_heap.specs.declared.state.Value.TheVariants.{Variable, Int, Atom, 
 use Rattle.pp_heap.specs.Values.{slot_at, slot_of, slot_term, value_term, domain_by}
 use Rattle.pp_heap.specs.Stores.{Store}
 use Rattle.pp_heap.specs.Agreement.{Says, Agrees}
+use Rattle.pp_heap.specs.Soundness.{IsLinked}
+use Rattle.pp_heap.specs.Outcomes.{IsNow}
 
 pub data Kind (k : Slot) : Type 0 where
   is_free : (d : Option ℕ) → k ≡ slots.Free d → Kind k
@@ -99,3 +101,11 @@ only_free (slots.Alias w) h i j l = absurd (h w refl)
 only_free (slots.Int n) h i j l = absurd (i n refl)
 only_free (slots.Atom a) h i j l = absurd (j a refl)
 only_free (slots.Compound p) h i j l = absurd (l p refl)
+
+-- what is neither free nor bound to a variable is bound to what is no variable
+pub fixed_slot : (st : Store) (x : ℕ) (k : Slot) → IsLinked st → slot_at st.slots x ≡ k → ((w : ℕ) → k ≡ slots.Alias w → ⊥) → ((d : Option ℕ) → k ≡ slots.Free d → ⊥) → (c : Value) × (k ≡ slot_of c) × IsNow st c
+fixed_slot st x (slots.Free d) l e h i = absurd (i d refl)
+fixed_slot st x (slots.Alias w) l e h i = absurd (h w refl)
+fixed_slot st x (slots.Int n) l e h i = (Int n, refl, l.bound x (Int n) e)
+fixed_slot st x (slots.Atom a) l e h i = (Atom a, refl, l.bound x (Atom a) e)
+fixed_slot st x (slots.Compound p) l e h i = (Compound p, refl, l.bound x (Compound p) e)

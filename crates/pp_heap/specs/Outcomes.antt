@@ -42,6 +42,10 @@ pub record IsValue (st : Store) (t : Tree ℕ) (c : Value) : Type 0 where
   pub now : IsNow st c
   pub same : (ds : Domains ℕ) (s : ℕ → Tree ℕ) → Agrees st ds s → put s t ≡ put s (value_term st.heap c)
 
+-- a variable that is bound to what the term is now has this slot
+abbrev pub IsSlotFor : Store → Tree ℕ → Slot → Type 0
+IsSlotFor st t k = (c : Value) × (k ≡ slot_of c) × IsValue st t c
+
 -- one change more
 pub record IsChange (old new : State) (e : Entry) (st : Store) : Type 0 where
   pub store : store_of new ≡ st

@@ -1,11 +1,13 @@
 //! Binding a variable, and giving it another domain.
-ghost use Rattle.std.specs.Prelude.{◌≡◌, ℕ, ◌<◌, ◌≤◌, ◌++◌, ◌∷◌, [], length, slice_set, IfOk, OnErr, MatchOption, Some, IfSome};
+ghost use Rattle.std.specs.Prelude.{◌≡◌, ℕ, ◌<◌, ◌≤◌, ◌++◌, ◌∷◌, [], length, slice_set, IfOk, OnErr, MatchOption, Some, None, IfSome};
 ghost use Rattle.std.specs.FinSet as set;
 ghost use Rattle.pp_algebra.specs.Solve.{membership};
-ghost use Rattle.pp_algebra.specs.Terms.{variable};
+ghost use Rattle.pp_algebra.specs.Covers.{IsIn};
+ghost use Rattle.pp_algebra.specs.Terms.{int, node, none, variable, variables, put};
+ghost use Rattle.pp_algebra.specs.Members.{IsInteger};
 ghost use Rattle.pp_domain.specs.Sets.{set_of};
-ghost use Rattle.pp_heap.specs.Values.{slot_of, value_term, domain_by};
-ghost use Rattle.pp_heap.specs.Stores.{store_of};
+ghost use Rattle.pp_heap.specs.Values.{slot_of, value_term, term_at, domain_by};
+ghost use Rattle.pp_heap.specs.Stores.{store_of, solution};
 ghost use Rattle.pp_heap.specs.Soundness.{IsGood, IsFixed, IsPlace};
 ghost use Rattle.pp_heap.specs.Outcomes.{IsFree, IsUnbound, IsChange, IsSame, IsAnswer, IsVerdict, HasOnly, IsMeeting, IsSettled, IsHeld, IsAllowed, IsCalm, IsLater};
 
@@ -62,6 +64,18 @@ impl State {
         self.trail.push(Entry::Defined(number))?;
         self.slots.push_reserved(value.slot());
         Ok(number)
+    }
+
+    /// Adds the next variable, which has this number and is bound, with its slot.
+    pub fn define_slot(&mut self, number: u32, slot: Slot) -> Result<(), AllocError>
+        requires next { number ≡ length self.old.slots.items }
+        ensures done { IfOk result (λ _. IsChange self.old self.new (Entry.Defined number) (record (store_of self.old) { slots = self.old.slots.items ++ slot ∷ [] })) }
+        ensures err { OnErr result (IsSame self.old self.new) }
+    {
+        self.slots.reserve(1)?;
+        self.trail.push(Entry::Defined(number))?;
+        self.slots.push_reserved(slot);
+        Ok(())
     }
 
     /// Gives a free variable another domain.
@@ -204,35 +218,118 @@ impl State {
         ensures later { IsLater self.old self.new }
         ensures answer { IfOk result (IsAnswer self.old self.new (variable free) (value_term self.old.heap.items value)) }
     {
+        match value {
+            Value::Int(value) => self.assign_int(free, value),
+            Value::Atom(name) => self.assign_atom(free, name),
+            Value::Compound(place) => self.assign_compound(free, place, work),
+            Value::Variable(_) => Ok(false),
+        }
+    }
+
+    /// Binds a free variable to a compound, where it isn't in it.
+    pub fn assign_compound(
+        &mut self,
+        free: u32,
+        place: u32,
+        work: &mut Vec<Span>,
+    ) -> Result<bool, AllocError>
+        requires good { IsGood self.old }
+        requires unbound { IsUnbound (store_of self.old) free }
+        requires fixed { IsFixed self.old.heap.items (Value.Compound place) }
+        ensures later { IsLater self.old self.new }
+        ensures answer { IfOk result (IsAnswer self.old self.new (variable free) (term_at self.old.heap.items place)) }
+    {
+        match self.domain_place(free) {
+            Some(_) => Ok(false),
+            None => {
+                if self.occurs(free, place, work)? {
+                    return Ok(false);
+                }
+                self.bind_compound(free, place)?;
+                Ok(true)
+            }
+        }
+    }
+
+    /// The same where it is known that the variable isn't in the compound.
+    pub fn assign_apart(&mut self, free: u32, place: u32) -> Result<bool, AllocError>
+        requires good { IsGood self.old }
+        requires unbound { IsUnbound (store_of self.old) free }
+        requires fixed { IsFixed self.old.heap.items (Value.Compound place) }
+        requires apart { IsIn free (variables (put (solution self.old) (term_at self.old.heap.items place))) → ⊥ }
+        ensures later { IsLater self.old self.new }
+        ensures answer { IfOk result (IsAnswer self.old self.new (variable free) (term_at self.old.heap.items place)) }
+    {
+        match self.domain_place(free) {
+            Some(_) => Ok(false),
+            None => {
+                self.bind_compound(free, place)?;
+                Ok(true)
+            }
+        }
+    }
+
+    /// The same where its domain is `any`.
+    fn bind_compound(&mut self, variable: u32, place: u32) -> Result<(), AllocError>
+        requires free { IsFree (store_of self.old) variable None }
+        ensures done { IfOk result (λ _. IsChange self.old self.new (Entry.Bound variable None) (record (store_of self.old) { slots = slice_set self.old.slots.items variable (Slot.Compound place) })) }
+        ensures err { OnErr result (IsSame self.old self.new) }
+    {
+        self.trail.push(Entry::Bound(variable, None))?;
+        self.slots[variable as usize] = Slot::Compound(place);
+        Ok(())
+    }
+
+    /// Binds a free variable to an integer, where its domain allows it.
+    pub fn assign_int(&mut self, free: u32, value: i64) -> Result<bool, AllocError>
+        requires good { IsGood self.old }
+        requires unbound { IsUnbound (store_of self.old) free }
+        requires integer { IsInteger value }
+        ensures later { IsLater self.old self.new }
+        ensures answer { IfOk result (IsAnswer self.old self.new (variable free) (int value)) }
+    {
         let domain = self.domain_place(free);
-        let allowed = self.may_be(free, domain, value, work)?;
+        let allowed = self.holds(domain, value);
         if allowed {
-            self.bind(free, domain, value)?;
+            self.bind_int(free, domain, value)?;
         }
         Ok(allowed)
     }
 
-    /// Whether a free variable may be bound to what is no variable: its domain allows it, and it isn't in it.
-    fn may_be(
-        &self,
-        free: u32,
-        domain: Option<u32>,
-        value: Value,
-        work: &mut Vec<Span>,
-    ) -> Result<bool, AllocError>
-        requires good { IsGood self.now }
-        requires free { IsFree (store_of self.now) free domain }
-        requires fixed { IsFixed self.now.heap.items value }
-        ensures { IfOk result (IsAllowed self.now free domain value) }
+    fn bind_int(&mut self, variable: u32, domain: Option<u32>, value: i64) -> Result<(), AllocError>
+        requires free { IsFree (store_of self.old) variable domain }
+        ensures done { IfOk result (λ _. IsChange self.old self.new (Entry.Bound variable domain) (record (store_of self.old) { slots = slice_set self.old.slots.items variable (Slot.Int value) })) }
+        ensures err { OnErr result (IsSame self.old self.new) }
     {
-        match value {
-            Value::Int(value) => Ok(self.holds(domain, value)),
-            Value::Compound(place) => match domain {
-                Some(_) => Ok(false),
-                None => Ok(!self.occurs(free, place, work)?),
-            },
-            _ => Ok(domain.is_none()),
+        self.trail.push(Entry::Bound(variable, domain))?;
+        self.slots[variable as usize] = Slot::Int(value);
+        Ok(())
+    }
+
+    /// Binds a free variable to an atom, where its domain is `any`.
+    pub fn assign_atom(&mut self, free: u32, name: u32) -> Result<bool, AllocError>
+        requires good { IsGood self.old }
+        requires unbound { IsUnbound (store_of self.old) free }
+        ensures later { IsLater self.old self.new }
+        ensures answer { IfOk result (IsAnswer self.old self.new (variable free) (node name none)) }
+    {
+        match self.domain_place(free) {
+            Some(_) => Ok(false),
+            None => {
+                self.bind_atom(free, name)?;
+                Ok(true)
+            }
         }
+    }
+
+    fn bind_atom(&mut self, variable: u32, name: u32) -> Result<(), AllocError>
+        requires free { IsFree (store_of self.old) variable None }
+        ensures done { IfOk result (λ _. IsChange self.old self.new (Entry.Bound variable None) (record (store_of self.old) { slots = slice_set self.old.slots.items variable (Slot.Atom name) })) }
+        ensures err { OnErr result (IsSame self.old self.new) }
+    {
+        self.trail.push(Entry::Bound(variable, None))?;
+        self.slots[variable as usize] = Slot::Atom(name);
+        Ok(())
     }
 
     /// Whether the integer is in the domain at the place.

@@ -6,7 +6,7 @@ ghost use Rattle.pp_heap.specs.Values.{slot_at, slot_of, term_at};
 ghost use Rattle.pp_heap.specs.Stores.{store_of};
 ghost use Rattle.pp_heap.specs.Agreement.{Agrees};
 ghost use Rattle.pp_heap.specs.Soundness.{IsLinked};
-ghost use Rattle.pp_heap.specs.Outcomes.{IsValue};
+ghost use Rattle.pp_heap.specs.Outcomes.{IsValue, IsSlotFor};
 
 use crate::state::{Slot, State, Value};
 use pp_row::Cell;
@@ -53,6 +53,33 @@ impl State {
             Cell::Atom(name) => Value::Atom(name),
             Cell::Compound(_, _) => Value::Compound(at),
             Cell::Var(variable) => self.value_of(variable),
+        }
+    }
+
+    /// The slot of a variable that is bound to what this one is.
+    pub fn slot_for_variable(&self, number: u32) -> Slot
+        requires linked { IsLinked (store_of self.now) }
+        requires within { number < length self.now.slots.items }
+        ensures { IsSlotFor (store_of self.now) (variable number) result }
+    {
+        let last = self.chain_end(number);
+        match self.slots[last as usize] {
+            Slot::Free(_) => Slot::Alias(last),
+            bound => bound,
+        }
+    }
+
+    /// The slot of a variable that is bound to what the cell at this place of the heap is.
+    pub fn slot_for_cell(&self, at: u32) -> Slot
+        requires linked { IsLinked (store_of self.now) }
+        requires within { at < length self.now.heap.items }
+        ensures { IsSlotFor (store_of self.now) (term_at self.now.heap.items at) result }
+    {
+        match self.heap[at as usize] {
+            Cell::Int(value) => Slot::Int(value),
+            Cell::Atom(name) => Slot::Atom(name),
+            Cell::Compound(_, _) => Slot::Compound(at),
+            Cell::Var(variable) => self.slot_for_variable(variable),
         }
     }
 }

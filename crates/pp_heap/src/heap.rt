@@ -100,8 +100,8 @@ impl State {
         ensures at { IfOk result (λ at. at ≡ length self.old.heap.items) }
         ensures heap { IfOk result (λ _. self.new.heap.items ≡ self.old.heap.items ++ shifted first cells.now) }
     {
-        let at = u32::try_from(self.heap.len()).map_err(|_| AllocError)?;
-        let _end = u32::try_from(self.heap.len() + cells.len()).map_err(|_| AllocError)?;
+        let end = u32::try_from(self.heap.len() + cells.len()).map_err(|_| AllocError)?;
+        let at = end - cells.len() as u32;
         self.trail.push(Entry::Grown(at))?;
         push_shifted(&mut self.heap, cells, first)?;
         Ok(at)
@@ -160,8 +160,8 @@ impl State {
         ensures heap { self.new.heap.items ≡ self.old.heap.items }
         ensures domains { self.new.domains.items ≡ self.old.domains.items }
     {
-        let number = u32::try_from(self.slots.len()).map_err(|_| AllocError)?;
-        let _end = u32::try_from(self.slots.len() + count as usize).map_err(|_| AllocError)?;
+        let end = u32::try_from(self.slots.len() + count as usize).map_err(|_| AllocError)?;
+        let number = end - count;
         self.trail.push(Entry::Added(number))?;
         push_free(&mut self.slots, count)?;
         Ok(number)

@@ -3,9 +3,9 @@ ghost use Rattle.std.specs.Prelude.{◌↔◌, ◌<◌, length, IfOk, IsTrue, Al
 ghost use Rattle.pp_algebra.specs.Covers.{IsIn};
 ghost use Rattle.pp_algebra.specs.Terms.{put, variables};
 ghost use Rattle.pp_algebra.specs.Terms as term;
-ghost use Rattle.pp_heap.specs.Values.{term_at};
+ghost use Rattle.pp_heap.specs.Values.{cell_at, term_at};
 ghost use Rattle.pp_heap.specs.Stores.{solution};
-ghost use Rattle.pp_heap.specs.Soundness.{IsGood};
+ghost use Rattle.pp_heap.specs.Soundness.{IsGood, IsCompound};
 ghost use Rattle.pp_heap.specs.Spans.{IsSpan, span_terms};
 ghost use Rattle.pp_heap.specs.Sights.{HasSeen, HasSeenAll};
 
@@ -59,7 +59,7 @@ impl State {
         Ok(false)
     }
 
-    /// Whether the variable is in the term at this place, with all bindings in place. The work is a stack that is
+    /// Whether the variable is in the compound at this place, with all bindings in place. The work is a stack that is
     /// kept from call to call for its memory alone.
     pub(crate) fn occurs(
         &self,
@@ -69,17 +69,22 @@ impl State {
     ) -> Result<bool, AllocError>
         requires good { IsGood self.now }
         requires within { at < length self.now.heap.items }
+        requires compound { IsCompound (cell_at self.now.heap.items at) }
         ensures { IfOk result (λ b. IsTrue b ↔ IsIn variable (variables (put (solution self.now) (term_at self.now.heap.items at)))) }
     {
         work.clear();
-        if self.is_among(variable, Span { at, count: 1 }, work)? {
-            return Ok(true);
-        }
-        while let Some(span) = work.pop() {
+        let mut span = Span {
+            at: at + 1,
+            count: self.arity_at(at),
+        };
+        loop {
             if self.is_among(variable, span, work)? {
                 return Ok(true);
             }
+            match work.pop() {
+                Some(next) => span = next,
+                None => return Ok(false),
+            }
         }
-        Ok(false)
     }
 }

@@ -1,7 +1,8 @@
 -- Behind the words nothing more fails, and no row is added.
-use Rattle.std.proofs.Common.{◌≡◌, ◌∙◌, ap, ap₂, sym, refl, append-nil, append_assoc, Bool, true, false, ◌||◌, cond, List, [], ◌∷◌, ◌++◌, Option, Some, None}
+use Rattle.std.proofs.Common.{◌≡◌, ◌∙◌, ap, ap₂, sym, refl, append-nil, append_assoc, Bool, true, false, cond, List, [], ◌∷◌, ◌++◌, Option, Some, None}
 use Rattle.std.specs.Prelude.{codes, fold}
 use Rattle.std.specs.Str.{bytes_eq}
+use Rattle.std.proofs.lemmas.Bool.{or_right}
 use Rattle.std.proofs.lemmas.Slice.Eq.{bytes_eq-Decides}
 use Rattle.clap.specs.Walk.{Row, Rule, Text, all_of, has_row, idle, nothing_held, settled, walk, with_default, with_values}
 use Rattle.clap.specs.Simple.{built, matches_of}
@@ -15,10 +16,6 @@ use Rattle.pp_line.specs.Kept.{listed}
 use Rattle.pp_language.specs.Commands.{Setting, worker_count, look_ahead, search_depth, turn_count, same_setting}
 use Rattle.pp_line.proofs.Steps.{id_of, between, rules, shape, run_fault, rows_behind, Rests, Raw, valued, traced, bare, use_of, collected, AreRaws, takes_raws}
 use Rattle.pp_line.proofs.Taken.{AreOpen, reads_free}
-
-or_true : (b : Bool) → (b || true) ≡ true
-or_true true = refl
-or_true false = refl
 
 same_both : {A : Type 0} (b : Bool) (x : A) → cond b x x ≡ x
 same_both true x = refl
@@ -37,7 +34,7 @@ none_added : (rows : List Row) (a : Rule) → a.defaults ≡ [] → with_default
 none_added rows a e = rw e (same_both (has_row a.id rows) rows)
 
 none_fails : (rows : List Row) (a : Rule) → a.defaults ≡ [] → default_fault rows a ≡ []
-none_fails rows a e = rw (e, or_true (has_row a.id rows)) refl
+none_fails rows a e = rw (e, or_right (has_row a.id rows) true refl) refl
 
 all_added : (rows : List Row) (more : List Rule) → HaveNone more → fold with_default rows more ≡ rows
 all_added rows [] h = refl

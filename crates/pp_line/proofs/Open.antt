@@ -1,9 +1,9 @@
 -- Words that are left to clap, by their test.
-use Rattle.std.proofs.Common.{◌≡◌, ◌∙◌, ap, sym, refl, inl, inr, ℕ, Bool, true, false, ◌&&◌, not, cond, nat_eq, List, [], ◌∷◌, ◌++◌, Option, Some, None}
+use Rattle.std.proofs.Common.{◌≡◌, ◌∙◌, ap, sym, refl, inl, inr, true, false, ◌&&◌, not, cond, nat_eq, List, [], ◌∷◌, ◌++◌, Option, Some, None}
 use Rattle.std.specs.Prelude.{codes, is_some, option_and_then}
 use Rattle.std.specs.List.{list_all}
 use Rattle.std.specs.Str.{bytes_eq}
-use Rattle.std.proofs.lemmas.Bool.{and_parts}
+use Rattle.std.proofs.lemmas.Bool.{and_parts, not-true}
 use Rattle.clap.specs.Lexer.{short_of, short_of_rest}
 use Rattle.pp_language.specs.Texts.{Text}
 use Rattle.pp_language.specs.Commands.{Setting, worker_count, look_ahead, search_depth, turn_count}
@@ -25,14 +25,10 @@ none_is : {A : Type 0} (o : Option A) → is_some o ≡ false → o ≡ None
 none_is None h = refl
 none_is (Some x) h = absurd (cc h)
 
-not_true : (b : Bool) → not b ≡ true → b ≡ false
-not_true true h = absurd (cc h)
-not_true false h = refl
-
 pub open_is : (w : Text) → is_open w ≡ true → IsOpen w
 open_is w h =
     let p = and_parts (not (bytes_eq w (codes "--"))) (not (is_short w)) h in
-    (not_true (bytes_eq w (codes "--")) p.0, none_is (short_of w) (short_is w ∙ not_true (is_short w) p.1))
+    (not-true (bytes_eq w (codes "--")) p.0, none_is (short_of w) (short_is w ∙ not-true (is_short w) p.1))
 
 pub is_open_of : (w : Text) → IsOpen w → is_open w ≡ true
 is_open_of w o =

@@ -5,4 +5,5 @@ mod reach;
 mod rows;
 mod walk;
 
+pub use reach::domain_of;
 pub use rows::covers;

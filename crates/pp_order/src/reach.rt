@@ -10,7 +10,7 @@ use pp_domain::Domain;
 use pp_row::Cell;
 
 /// The finite domain of a variable, where it has one.
-fn domain_of(domains: &[Option<Domain>], variable: u32) -> Option<&Domain>
+pub fn domain_of(domains: &[Option<Domain>], variable: u32) -> Option<&Domain>
     ensures { MatchOption result (domain_at (sets_of domains.now) variable ≡ None) (λ d. domain_at (sets_of domains.now) variable ≡ Some (set_of d.now)) }
 {
     match domains.get(variable as usize) {

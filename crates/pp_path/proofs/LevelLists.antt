@@ -44,7 +44,7 @@ splits_nowhere (l ∷ ls) h =
     ∙ ap (behind (level_by l)) (splits_nowhere ls h.1)
 
 pub splits : (ls : List Level) (k : ℕ) (d : Level) → SplitsAt ls k
-    → split_levels (map level_by ls) ≡ Some (map level_by (set ls k (here.level (get_or ls k d).now (suc (get_or ls k d).now))), map level_by (take k ls ++ here.level (suc (get_or ls k d).now) (get_or ls k d).end ∷ []))
+    → split_levels (map level_by ls) ≡ Some (map level_by (set ls k (here.code_level (get_or ls k d).now (suc (get_or ls k d).now))), map level_by (take k ls ++ here.code_level (suc (get_or ls k d).now) (get_or ls k d).end ∷ []))
 splits [] k d h = absurd h
 splits (l ∷ ls) zero d h = ap (λ b. cond b (Some (level l.now (suc l.now) ∷ map level_by ls, level (suc l.now) l.end ∷ [])) (behind (level_by l) (split_levels (map level_by ls)))) h
 splits (l ∷ ls) (suc k) d h =
@@ -55,7 +55,7 @@ splits (l ∷ ls) (suc k) d h =
 
 -- what comes of a path whose last level has a sibling left, or not
 pub next_last : (ls : List Level) (l : Level) (b : Bool) → has_sibling l ≡ b
-    → next_levels (map level_by (ls ++ l ∷ [])) ≡ cond b (Some (map level_by (ls ++ here.level (suc l.now) l.end ∷ []))) (next_levels (map level_by ls))
+    → next_levels (map level_by (ls ++ l ∷ [])) ≡ cond b (Some (map level_by (ls ++ here.code_level (suc l.now) l.end ∷ []))) (next_levels (map level_by ls))
 next_last [] l b h = ap (λ c. cond c (Some (level (suc l.now) l.end ∷ [])) None) h
 next_last (m ∷ ls) l true h = ap (moved (level_by m)) (next_last ls l true h)
 next_last (m ∷ ls) l false h = ap (moved (level_by m)) (next_last ls l false h)
@@ -92,7 +92,7 @@ none_split true ls h = refl
 none_split false ls h = sym (ap works_of (splits_nowhere ls h))
 
 pub some_split : (b : Bool) (ls : List Level) (k : ℕ) (d : Level) → (b ≡ true → ls ≡ []) → SplitsAt ls k
-    → Some (work_by (cond b None (Some (set ls k (here.level (get_or ls k d).now (suc (get_or ls k d).now))))), work_by (Some (take k ls ++ here.level (suc (get_or ls k d).now) (get_or ls k d).end ∷ []))) ≡ works.split (work_by (cond b None (Some ls)))
+    → Some (work_by (cond b None (Some (set ls k (here.code_level (get_or ls k d).now (suc (get_or ls k d).now))))), work_by (Some (take k ls ++ here.code_level (suc (get_or ls k d).now) (get_or ls k d).end ∷ []))) ≡ works.split (work_by (cond b None (Some ls)))
 some_split true ls k d e h = absurd (subst (λ x. SplitsAt x k) (e refl) h)
 some_split false ls k d e h = sym (ap works_of (splits ls k d h))
 
@@ -106,18 +106,18 @@ no_snoc (m ∷ ls) l e = (cc)
 
 -- a path whose last level has a sibling left moves on there
 pub some_next : (b : Bool) (ls : List Level) (l : Level) → (b ≡ true → ls ++ l ∷ [] ≡ []) → has_sibling l ≡ true
-    → work_by (cond b None (Some (ls ++ here.level (suc l.now) l.end ∷ []))) ≡ works.work_of (next_levels (map level_by (ls ++ l ∷ [])))
+    → work_by (cond b None (Some (ls ++ here.code_level (suc l.now) l.end ∷ []))) ≡ works.work_of (next_levels (map level_by (ls ++ l ∷ [])))
 some_next true ls l e h = absurd (no_snoc ls l (e refl))
 some_next false ls l e h = sym (ap works.work_of (next_last ls l true h))
 
 -- so many children on at the last level
-pub skipped_last : (n : ℕ) (ls : List Level) (l : Level) → l.now + n < l.end → works.at (map level_by (ls ++ here.level (l.now + n) l.end ∷ [])) ≡ skipped n (works.at (map level_by (ls ++ l ∷ [])))
-skipped_last zero ls l h = let e : l.now + 0 ≡ l.now = omega arith in ap (λ k. works.at (map level_by (ls ++ here.level k l.end ∷ []))) e
+pub skipped_last : (n : ℕ) (ls : List Level) (l : Level) → l.now + n < l.end → works.at (map level_by (ls ++ here.code_level (l.now + n) l.end ∷ [])) ≡ skipped n (works.at (map level_by (ls ++ l ∷ [])))
+skipped_last zero ls l h = let e : l.now + 0 ≡ l.now = omega arith in ap (λ k. works.at (map level_by (ls ++ here.code_level k l.end ∷ []))) e
 skipped_last (suc n) ls l h =
-    let on : Level = here.level (suc l.now) l.end in
+    let on : Level = here.code_level (suc l.now) l.end in
     let e : l.now + suc n ≡ suc l.now + n = omega arith in
     let s : has_sibling l ≡ true = lt-ltb (suc l.now) l.end (omega (arith, h)) in
-    ap (λ k. works.at (map level_by (ls ++ here.level k l.end ∷ []))) e
+    ap (λ k. works.at (map level_by (ls ++ here.code_level k l.end ∷ []))) e
     ∙ (skipped_last n ls on (omega (arith, h))
     ∙ ap (skipped n) (some_next false ls l (λ f. absurd (true≢false (sym f))) s))
 
@@ -127,15 +127,15 @@ levels_with_more true ls n h = absurd (cc h.2)
 levels_with_more false ls n h = (refl, h.0, h.1, cc h.2, h.3)
 
 -- the last level goes on, as it is written
-pub moved_last : (ls ds front new : List Level) (l : Level) (n k : ℕ) → ds ≡ ls → ls ≡ front ++ l ∷ [] → k ≡ length ls → new ≡ set ls (k - 1) (here.level ((get_or ds (k - 1) (here.level 0 0)).now + n) (get_or ds (k - 1) (here.level 0 0)).end) → new ≡ front ++ here.level (l.now + n) l.end ∷ []
+pub moved_last : (ls ds front new : List Level) (l : Level) (n k : ℕ) → ds ≡ ls → ls ≡ front ++ l ∷ [] → k ≡ length ls → new ≡ set ls (k - 1) (here.code_level ((get_or ds (k - 1) (here.code_level 0 0)).now + n) (get_or ds (k - 1) (here.code_level 0 0)).end) → new ≡ front ++ here.code_level (l.now + n) l.end ∷ []
 moved_last ls ds front new l n k same e many put =
     let place : k - 1 ≡ length front = omega (arith, many, ap length e, length_snoc front l) in
-    let old : get_or ds (k - 1) (here.level 0 0) ≡ l = ap (λ v. get_or v (k - 1) (here.level 0 0)) (same ∙ e) ∙ (ap (λ j. get_or (front ++ l ∷ []) j (here.level 0 0)) place ∙ get_or-append_seam front l [] (here.level 0 0)) in
+    let old : get_or ds (k - 1) (here.code_level 0 0) ≡ l = ap (λ v. get_or v (k - 1) (here.code_level 0 0)) (same ∙ e) ∙ (ap (λ j. get_or (front ++ l ∷ []) j (here.code_level 0 0)) place ∙ get_or-append_seam front l [] (here.code_level 0 0)) in
     put
-    ∙ (ap (λ (x : Level). set ls (k - 1) (here.level (x.now + n) x.end)) old
-    ∙ (ap (λ v. set v (k - 1) (here.level (l.now + n) l.end)) e
-    ∙ (ap (λ j. set (front ++ l ∷ []) j (here.level (l.now + n) l.end)) place
-    ∙ set-append_seam front l [] (here.level (l.now + n) l.end))))
+    ∙ (ap (λ (x : Level). set ls (k - 1) (here.code_level (x.now + n) x.end)) old
+    ∙ (ap (λ v. set v (k - 1) (here.code_level (l.now + n) l.end)) e
+    ∙ (ap (λ j. set (front ++ l ∷ []) j (here.code_level (l.now + n) l.end)) place
+    ∙ set-append_seam front l [] (here.code_level (l.now + n) l.end))))
 
 -- what comes of a work, by its levels
 pub next_of : (b : Bool) (ls : List Level) → (b ≡ true → ls ≡ []) → works.next (work_by (cond b None (Some ls))) ≡ works.work_of (next_levels (map level_by ls))
@@ -147,20 +147,20 @@ next_of false ls e = refl
 module _ (ls ds : List Level) (k : ℕ) (e : ds ≡ ls) where
   -- the level that is split
   abbrev pub split_at : Level
-  split_at = get_or ls k (here.level 0 0)
+  split_at = get_or ls k (here.code_level 0 0)
 
   next_place : split_at.now + 1 ≡ suc split_at.now
   next_place = omega arith
 
-  pub split_off : (es new : List Level) → es ≡ ls → new ≡ take k es ++ here.level ((get_or ds k (here.level 0 0)).now + 1) (get_or ds k (here.level 0 0)).end ∷ [] → new ≡ take k ls ++ here.level (suc split_at.now) split_at.end ∷ []
+  pub split_off : (es new : List Level) → es ≡ ls → new ≡ take k es ++ here.code_level ((get_or ds k (here.code_level 0 0)).now + 1) (get_or ds k (here.code_level 0 0)).end ∷ [] → new ≡ take k ls ++ here.code_level (suc split_at.now) split_at.end ∷ []
   split_off es new f g =
       g
-      ∙ ap (λ v. take k v ++ here.level ((get_or ds k (here.level 0 0)).now + 1) (get_or ds k (here.level 0 0)).end ∷ []) f
-      ∙ ap (λ v. take k ls ++ here.level ((get_or v k (here.level 0 0)).now + 1) (get_or v k (here.level 0 0)).end ∷ []) e
-      ∙ ap (λ n. take k ls ++ here.level n split_at.end ∷ []) next_place
+      ∙ ap (λ v. take k v ++ here.code_level ((get_or ds k (here.code_level 0 0)).now + 1) (get_or ds k (here.code_level 0 0)).end ∷ []) f
+      ∙ ap (λ v. take k ls ++ here.code_level ((get_or v k (here.code_level 0 0)).now + 1) (get_or v k (here.code_level 0 0)).end ∷ []) e
+      ∙ ap (λ n. take k ls ++ here.code_level n split_at.end ∷ []) next_place
 
-  pub split_stays : (new : List Level) → new ≡ set ls k (here.level (get_or ds k (here.level 0 0)).now ((get_or ds k (here.level 0 0)).now + 1)) → new ≡ set ls k (here.level split_at.now (suc split_at.now))
+  pub split_stays : (new : List Level) → new ≡ set ls k (here.code_level (get_or ds k (here.code_level 0 0)).now ((get_or ds k (here.code_level 0 0)).now + 1)) → new ≡ set ls k (here.code_level split_at.now (suc split_at.now))
   split_stays new g =
       g
-      ∙ ap (λ v. set ls k (here.level (get_or v k (here.level 0 0)).now ((get_or v k (here.level 0 0)).now + 1))) e
-      ∙ ap (λ n. set ls k (here.level split_at.now n)) next_place
+      ∙ ap (λ v. set ls k (here.code_level (get_or v k (here.code_level 0 0)).now ((get_or v k (here.code_level 0 0)).now + 1))) e
+      ∙ ap (λ n. set ls k (here.code_level split_at.now n)) next_place

@@ -6,8 +6,8 @@ use Rattle.pp_path.specs.declared.levels.Level.{Level}
 abbrev pub level_by : Level → works.Level
 level_by l = record { now = l.now; end = l.end }
 
-abbrev pub level : ℕ → ℕ → Level
-level now end = record { now = now; end = end }
+abbrev pub code_level : ℕ → ℕ → Level
+code_level now end = record { now = now; end = end }
 
 -- no list of levels is spent
 abbrev pub work_by : Option (List Level) → works.Work

@@ -1,6 +1,6 @@
 //! The levels of a path.
 ghost use Rattle.std.specs.Prelude.{◌≡◌, ◌↔◌, ◌<◌, true, length, slice_index_or, IsTrue, IfNone, IfSome};
-ghost use Rattle.pp_path.specs.Works.{level, has_sibling, SplitsAt, AreLast};
+ghost use Rattle.pp_path.specs.Works.{code_level, has_sibling, SplitsAt, AreLast};
 
 /// The child that is searched at a choice, and where the children that are left end: those after `now` and before
 /// `end` are still to come.
@@ -22,7 +22,7 @@ pub(crate) fn first_with_sibling(levels: &[Level]) -> Option<usize>
     ensures none { IfNone result (AreLast levels.now) }
     ensures some { IfSome result (SplitsAt levels.now) }
     ensures within { IfSome result (λ place. place < length levels.now) }
-    ensures sibling { IfSome result (λ place. has_sibling (slice_index_or levels.now place (level 0 0)) ≡ true) }
+    ensures sibling { IfSome result (λ place. has_sibling (slice_index_or levels.now place (code_level 0 0)) ≡ true) }
 {
     for i in 0..levels.len() {
         if has_sibling(levels[i]) {

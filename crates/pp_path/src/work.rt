@@ -2,7 +2,7 @@
 ghost use Rattle.std.specs.Prelude.{◌≡◌, ◌≢◌, ◌↔◌, ◌<◌, ◌≤◌, [], ◌∷◌, ◌++◌, true, false, not, IsTrue, IfOk, IfNone, OnOk, OnErr, Some, None, length, slice_set};
 ghost use Rattle.smallvec.specs.SmallVec.{small_vec_len};
 ghost use Rattle.pp_sld.specs.Works as works;
-ghost use Rattle.pp_path.specs.Works.{level, level_by, work_by, levels_of, split_by, skipped, HasMore};
+ghost use Rattle.pp_path.specs.Works.{code_level, level_by, work_by, levels_of, split_by, skipped, HasMore};
 
 use crate::Level;
 use crate::levels::{first_with_sibling, has_sibling, same_levels};
@@ -162,7 +162,7 @@ fn followed_by(
     now: u64,
     end: u64,
 ) -> Result<SmallVec<Level, 16>, AllocError>
-    ensures levels { IfOk result (λ levels. levels.items ≡ before.now ++ level now end ∷ []) }
+    ensures levels { IfOk result (λ levels. levels.items ≡ before.now ++ code_level now end ∷ []) }
     ensures room { IfOk result (λ levels. 16 ≤ levels.capacity) }
     ensures deep { OnErr result (16 ≤ length before.now) }
 {

@@ -21,7 +21,8 @@ use Rattle.pp_language.specs.Limits.{is_above, variable_count, item_too_wide, go
 use Rattle.pp_term.specs.declared.query.Item as asked
 use Rattle.pp_term.specs.declared.query.Item.TheVariants as items
 use Rattle.pp_term.specs.declared.query.Query.{Query}
-use Rattle.pp_build.specs.Meanings.{item_of, query_of}
+use Rattle.pp_query.specs.Meanings.{item_of}
+use Rattle.pp_build.specs.Meanings.{query_of}
 use Rattle.pp_term.specs.WellFormed.{IsQuery}
 use Rattle.pp_parse.specs.declared.parts.Part.{Part}
 use Rattle.pp_parse.specs.declared.items.Entry.{Entry}

@@ -18,7 +18,7 @@ use Rattle.pp_term.specs.declared.clause.Clause as clauses
 use Rattle.pp_term.specs.declared.query.Query as queries
 use Rattle.pp_row.specs.Columns.{trees_of}
 use Rattle.pp_term.specs.Meanings.{predicate_of, goal_of}
-use Rattle.pp_build.specs.Meanings.{item_of}
+use Rattle.pp_query.specs.Meanings.{item_of}
 use Rattle.pp_parse.specs.declared.parts.Part.{Part}
 use Rattle.pp_parse.specs.declared.items.Entry.{Entry}
 use Rattle.pp_parse.specs.declared.statement.Layout.{Layout}

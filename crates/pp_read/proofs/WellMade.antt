@@ -27,7 +27,7 @@ use Rattle.pp_term.specs.declared.query.Item as query
 use Rattle.pp_term.specs.declared.query.Item.TheVariants as items
 use Rattle.pp_row.specs.Columns.{trees_of}
 use Rattle.pp_term.specs.Meanings.{shape_of, goal_of}
-use Rattle.pp_build.specs.Meanings.{item_of}
+use Rattle.pp_query.specs.Meanings.{item_of}
 use Rattle.pp_term.specs.WellFormed.{arguments_of, AreArguments, IsGoal, IsItem}
 use Rattle.pp_parse.specs.Terms.{term_of, terms_of}
 use Rattle.pp_parse.proofs.KnownTexts.{Known, all_first, all_second}

@@ -1,6 +1,8 @@
 -- An engine takes an alternative of the selected goal.
-use Rattle.std.proofs.Common.{◌≡◌, inl, inr, ℕ, ℤ, zero, suc, ◌-◌, ◌^◌, ◌<◌, Bool, true, false, List, [], ◌∷◌, ◌++◌, length, map, take, drop, reverse, All, Some, None, refl, ap, sym, ◌∙◌, subst, arith, append_assoc}
+use Rattle.std.proofs.Common.{◌≡◌, true≢false, inl, inr, ℕ, ℤ, zero, suc, ◌-◌, ◌^◌, ◌<◌, Bool, true, false, List, [], ◌∷◌, ◌++◌, length, map, take, drop, reverse, All, Option, Some, None, refl, ap, sym, ◌∙◌, subst, arith, append_assoc}
 use Rattle.std.specs.List.{slice_get}
+use Rattle.std.specs.Option.{is_some}
+use Rattle.std.specs.Prelude.{not}
 use Rattle.std.proofs.lemmas.List.{take_all}
 use Rattle.std.proofs.lemmas.List.Elements.{All-head, All-tail}
 use Rattle.pp_algebra.specs.Terms.{Trees, none, put_all, variables_all, count}
@@ -30,6 +32,7 @@ use Rattle.pp_unify.specs.Forests.{AreOver, AreDecided, pairs}
 use Rattle.pp_goal.specs.Arguments.{IsLent}
 use Rattle.pp_goal.specs.declared.acts.Act.TheVariants as acts
 use Rattle.pp_walk.specs.Moves.{HasChoice, IsDeadAt}
+use Rattle.pp_walk.specs.Places.{Place}
 use Rattle.pp_resolve.specs.declared.history.Rest.{Rest}
 use Rattle.pp_resolve.specs.declared.history.Front.{Front}
 use Rattle.pp_resolve.specs.declared.engine.Engine.{Engine}
@@ -47,7 +50,7 @@ use Rattle.pp_resolve.proofs.Moving.{first_over}
 use Rattle.pp_resolve.proofs.Showing.{shown_lent}
 use Rattle.pp_resolve.proofs.Following as so
 use Rattle.pp_resolve.proofs.Stepping.{over, here_is, at_spent, at_called, at_split, at_refused, at_end, at_stop}
-use Rattle.pp_resolve.specs.Engines.{IsSamePlace, left, IsLinkOf}
+use Rattle.pp_resolve.specs.Engines.{IsSamePlace, IsKnown, left, IsLinkOf}
 use Rattle.pp_resolve.proofs.Moving.{carried, left_still}
 use Rattle.pp_sld.specs.Ways.{values_of}
 use Rattle.pp_sld.specs.Selection.{splits, at_place}
@@ -73,8 +76,39 @@ above_longer e rs f k l = ap (map (config_of e.clauses.now (engines.goal_of e) e
 pub took_true : (old new : Engine) (k : ℕ) (b : Bool) → b ≡ true → Chosen (program old.clauses.now) (place_of old).here k (place_of new).here → Took old k b new
 took_true old new k b t h = subst (λ x. Took old k x new) (sym t) h
 
-pub took_false : (old new : Engine) (k : ℕ) (b : Bool) → b ≡ false → IsDeadAt (program old.clauses.now) (place_of old).here k → Took old k b new
-took_false old new k b t h = subst (λ x. Took old k x new) (sym t) h
+pub took_false : (old new : Engine) (k : ℕ) (b : Bool) → b ≡ false → IsDeadAt (program old.clauses.now) (place_of old).here k → place_of new ≡ place_of old → Took old k b new
+took_false old new k b t h p = subst (λ x. Took old k x new) (sym t) (h, p)
+
+-- ===== states that are the same again
+
+abbrev with_states : Engine → List Row → Engine
+with_states e rs = record { clauses = e.clauses; root = e.root; columns = e.columns; history = record e.history { bindings = rs }; front = e.front }
+
+pub good_again : (e : Engine) (rs : List Row) → rs ≡ e.history.bindings → IsGood e → IsGood (with_states e rs)
+good_again e rs b g = subst (λ x. IsGood (with_states e x)) (sym b) g
+
+pub place_again : (e : Engine) (rs : List Row) → rs ≡ e.history.bindings → place_of (with_states e rs) ≡ place_of e
+place_again e rs b = ap (λ x. place_of (with_states e x)) b
+
+-- where it stood before it took the choice
+pub back_again : (p q r : Place) (b : Bool) → p.above ≡ q.here ∷ q.above → (b ≡ false → p.above ≡ []) → (b ≡ true → p.above ≡ r.here ∷ r.above) → r ≡ q
+back_again p q r false h empty more = absurd (cc (sym (empty refl) ∙ h))
+back_again p q r true h empty more =
+    let e : r.here ∷ r.above ≡ q.here ∷ q.above = sym (more refl) ∙ h in
+    let here : r.here ≡ q.here = cc e in
+    let above : r.above ≡ q.above = cc e in
+    ap (λ x. let y : Place = record { above = x; here = r.here } in y) above ∙ ap (λ x. let y : Place = record { above = q.above; here = x } in y) here
+
+-- ===== what is kept of the selected goal
+
+pub same_self : (e : Engine) → IsGood e → IsSamePlace e e
+same_self e g = record { good = g; search = record { clauses = refl; root = refl; columns = refl }; place = refl; bindings = refl }
+
+pub known_wait : (e : Engine) (a : Act) → IsGood e → e.front.selected ≡ Some a → AllWait e
+known_wait e a g s = (subst (IsKnown e.clauses.now (engines.goal_of e) (row_of e) e.history.links.items e.front) s g.here.known).0
+
+pub never_none : (s : Option Act) (b : Bool) → is_some s ≡ not b → b ≡ false → s ≡ None → ⊥
+never_none s b h f n = true≢false (sym (ap not f) ∙ sym h ∙ ap is_some n)
 
 -- ===== variables of bodies
 
@@ -265,7 +299,7 @@ choice_same a b k s h = subst (λ p. HasChoice (program b.clauses.now) p.here k)
 
 pub took_from : (a b c : Engine) (k : ℕ) (x : Bool) → IsSamePlace a b → Took b k x c → Took a k x c
 took_from a b c k true s h = subst (λ p. Chosen (program a.clauses.now) p.here k (place_of c).here) s.place (subst (λ cs. Chosen (program cs) (place_of b).here k (place_of c).here) s.search.clauses h)
-took_from a b c k false s h = subst (λ p. IsDeadAt (program a.clauses.now) p.here k) s.place (subst (λ cs. IsDeadAt (program cs) (place_of b).here k) s.search.clauses h)
+took_from a b c k false s h = (subst (λ p. IsDeadAt (program a.clauses.now) p.here k) s.place (subst (λ cs. IsDeadAt (program cs) (place_of b).here k) s.search.clauses h.0), h.1 ∙ s.place)
 
 -- ===== a split
 

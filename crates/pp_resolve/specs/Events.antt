@@ -39,7 +39,7 @@ after_first l = record { body = l.body; from = l.from + 1; to = l.to; first = l.
 abbrev pub IsNext : Engine → ℕ → Type 0
 IsNext e n = (below e.clauses.now (goal_of e) (reverse e.history.links.items) n ≡ goals_in e.clauses.now (goal_of e) e.history.links.items (after_first e.front.rest)) × (n ≤ length e.history.links.items)
 
--- the alternative at this place leads there, or it fails
+-- the alternative at this place leads there, or it fails and the engine stands where it stood
 abbrev pub Took : Engine → ℕ → Bool → Engine → Type 0
 Took old k true new = Chosen (program old.clauses.now) (place_of old).here k (place_of new).here
-Took old k false new = IsDeadAt (program old.clauses.now) (place_of old).here k
+Took old k false new = IsDeadAt (program old.clauses.now) (place_of old).here k × (place_of new ≡ place_of old)

@@ -1,5 +1,5 @@
 //! An alternative of the selected goal is taken.
-ghost use Rattle.std.specs.Prelude.{◌≡◌, ◌≢◌, ◌<◌, ◌+◌, ℕ, Some, true, length, slice_get, IfOk, OnErr};
+ghost use Rattle.std.specs.Prelude.{◌≡◌, ◌≢◌, ◌<◌, ◌+◌, ℕ, Some, false, length, slice_get, IfOk, OnErr};
 ghost use Rattle.pp_algebra.specs.Terms.{count};
 ghost use Rattle.pp_row.specs.Columns.{trees_of};
 ghost use Rattle.pp_row.specs.Reading.{forest};
@@ -12,22 +12,23 @@ ghost use Rattle.pp_algebra.specs.Members.{IsInteger};
 ghost use Rattle.pp_sld.specs.Selection.{at_place};
 ghost use Rattle.pp_goal.specs.Arguments.{IsLent, terms_of};
 ghost use Rattle.pp_goal.specs.declared.acts.Act.TheVariants.{Call, Split, Wait};
-ghost use Rattle.pp_walk.specs.Moves.{HasChoice, Chose};
+ghost use Rattle.pp_walk.specs.Moves.{HasChoice, Chose, Committed};
 ghost use Rattle.pp_resolve.specs.Events.{Took, IsNext};
-ghost use Rattle.pp_resolve.specs.Engines.{place_of, AllWait, IsKept, IsGood, IsSameSearch, Sees};
+ghost use Rattle.pp_resolve.specs.Engines.{place_of, AllWait, IsGood, IsSameSearch, Sees};
 
 use crate::engine::Engine;
 use crate::history::Rest;
 use crate::root::goal_at;
+use crate::step::solve;
 use pp_clause::{Clauses, GoalAt};
-use pp_goal::{Act, perform, split_value};
+use pp_goal::{Act, split_value};
 use pp_unify::Bindings;
 use pp_walk::Steps;
 use std::alloc::AllocError;
 use std::sync::ledger::Ledger;
 
 /// Adds the variables of the clause of this number and makes its head equal to a goal's arguments; false where
-/// nothing does.
+/// nothing does, and then nothing is changed.
 fn enter(
     clauses: &Clauses,
     bindings: &mut Bindings,
@@ -42,13 +43,26 @@ fn enter(
     ensures entered { IfOk result (λ b. (c : Clause) → slice_get clauses.now number ≡ Some c
         → AreDecided (with_many (present bindings.old) c.vars) (pairs (count (present bindings.old).columns) (trees_of c.head) first (forest goal.now.arguments.now)) b (present bindings.new)) }
     ensures kept { IsLonger bindings.old bindings.new }
+    ensures stays { IfOk result (λ b. b ≡ false → bindings.new ≡ bindings.old) }
+    ensures err { OnErr result (bindings.new ≡ bindings.old) }
 {
     let head = clauses.head(number);
     let amount = clauses.variables(number);
-    bindings.enter(goal.arguments, first, head, amount)
+    let mark = bindings.mark();
+    match bindings.enter(goal.arguments, first, head, amount) {
+        Ok(true) => Ok(true),
+        Ok(false) => {
+            bindings.undo(mark);
+            Ok(false)
+        }
+        Err(error) => {
+            bindings.undo(mark);
+            Err(error)
+        }
+    }
 }
 
-/// Makes a goal's only argument equal to an integer; false where nothing does.
+/// Makes a goal's only argument equal to an integer; false where nothing does, and then nothing is changed.
 fn set_first(
     bindings: &mut Bindings,
     goal: &GoalAt<'_>,
@@ -60,8 +74,10 @@ fn set_first(
     requires integer { IsInteger value }
     ensures decided { IfOk result (λ b. AreDecided (present bindings.old) (at_place 0 value (terms_of goal.now first)) b (present bindings.new)) }
     ensures kept { IsLonger bindings.old bindings.new }
+    ensures stays { IfOk result (λ b. b ≡ false → bindings.new ≡ bindings.old) }
+    ensures err { OnErr result (bindings.new ≡ bindings.old) }
 {
-    perform(bindings, goal, first, Act::Bind(0, value))
+    solve(bindings, goal, first, Act::Bind(0, value))
 }
 
 impl<'a> Engine<'a> {
@@ -72,11 +88,11 @@ impl<'a> Engine<'a> {
         requires sees { Sees self.old (Some (Call predicate)) }
         requires choice { HasChoice (program self.old.clauses.now) (place_of self.old).here place }
         requires next { IsNext self.old next }
-        ensures ready { IsKept self.new }
+        ensures good { IsGood self.new }
         ensures same { IsSameSearch self.old self.new }
         ensures above { (place_of self.new).above ≡ (place_of self.old).above }
-        ensures good { IfOk result (λ b. b ≡ true → IsGood self.new) }
         ensures took { IfOk result (λ b. Took self.old place b self.new) }
+        ensures err { OnErr result (place_of self.new ≡ place_of self.old) }
     {
         let rest = self.front.rest;
         let first = u32::try_from(self.history.bindings.len()).map_err(|_| AllocError)?;
@@ -110,11 +126,11 @@ impl<'a> Engine<'a> {
         requires wait { AllWait self.old }
         requires sees { Sees self.old (Some (Call predicate)) }
         requires choice { HasChoice (program self.old.clauses.now) (place_of self.old).here place }
-        ensures ready { IsKept self.new }
+        ensures good { IsGood self.new }
         ensures same { IsSameSearch self.old self.new }
         ensures above { (place_of self.new).above ≡ (place_of self.old).above }
-        ensures good { IfOk result (λ b. b ≡ true → IsGood self.new) }
         ensures took { IfOk result (λ b. Took self.old place b self.new) }
+        ensures err { OnErr result (place_of self.new ≡ place_of self.old) }
     {
         let rest = self.front.rest;
         let next = self.link_of(Rest {
@@ -130,11 +146,11 @@ impl<'a> Engine<'a> {
         requires wait { AllWait self.old }
         requires sees { Sees self.old (Some Split) }
         requires choice { HasChoice (program self.old.clauses.now) (place_of self.old).here place }
-        ensures ready { IsKept self.new }
+        ensures good { IsGood self.new }
         ensures same { IsSameSearch self.old self.new }
         ensures above { (place_of self.new).above ≡ (place_of self.old).above }
-        ensures good { IfOk result (λ b. b ≡ true → IsGood self.new) }
         ensures took { IfOk result (λ b. Took self.old place b self.new) }
+        ensures err { OnErr result (place_of self.new ≡ place_of self.old) }
     {
         let rest = self.front.rest;
         let goal = goal_at(self.clauses, &self.root, rest);
@@ -154,11 +170,11 @@ impl<'a> Engine<'a> {
         requires sees { Sees self.old (Some act) }
         requires ready { Some act ≢ Some Wait }
         requires choice { HasChoice (program self.old.clauses.now) (place_of self.old).here place }
-        ensures ready { IsKept self.new }
+        ensures good { IsGood self.new }
         ensures same { IsSameSearch self.old self.new }
         ensures above { (place_of self.new).above ≡ (place_of self.old).above }
-        ensures good { IfOk result (λ b. b ≡ true → IsGood self.new) }
         ensures took { IfOk result (λ b. Took self.old place b self.new) }
+        ensures err { OnErr result (place_of self.new ≡ place_of self.old) }
     {
         match act {
             Act::Call(predicate) => {
@@ -170,20 +186,41 @@ impl<'a> Engine<'a> {
         }
     }
 
-    /// Goes the way of the alternative at a place; false where it fails. What it changed is not undone then.
+    /// Goes the way of the alternative at a place; false where it fails, and then it stands where it stood.
     fn take(&mut self, place: u64) -> Result<bool, AllocError>
         requires good { IsGood self.old }
         requires choice { HasChoice (program self.old.clauses.now) (place_of self.old).here place }
-        ensures ready { IsKept self.new }
+        ensures good { IsGood self.new }
         ensures same { IsSameSearch self.old self.new }
         ensures above { (place_of self.new).above ≡ (place_of self.old).above }
-        ensures good { IfOk result (λ b. b ≡ true → IsGood self.new) }
         ensures took { IfOk result (λ b. Took self.old place b self.new) }
+        ensures err { OnErr result (place_of self.new ≡ place_of self.old) }
     {
-        match self.select()? {
+        if self.front.selected.is_none() {
+            self.select()?;
+        }
+        match self.front.selected {
             None => Ok(false),
             Some(act) => self.take_by(act, place),
         }
+    }
+
+    /// Goes the way of the alternative at a place for good: `back` goes to the choice above. False where it fails.
+    pub(crate) fn commit<L: Ledger>(
+        &mut self,
+        place: u64,
+        steps: &mut Steps<L>,
+    ) -> Result<bool, AllocError>
+        requires good { IsGood self.old }
+        requires choice { HasChoice (program self.old.clauses.now) (place_of self.old).here place }
+        ensures good { IsGood self.new }
+        ensures same { IsSameSearch self.old self.new }
+        ensures committed { IfOk result (λ b. Committed (program self.old.clauses.now) (place_of self.old) place b (place_of self.new)) }
+        ensures err { OnErr result (place_of self.new ≡ place_of self.old) }
+        ensures steps { steps.new ≡ steps.old + 1 }
+    {
+        steps.tick();
+        self.take(place)
     }
 
     /// Goes the way of the alternative at a place, to which `back` returns; false where it fails.

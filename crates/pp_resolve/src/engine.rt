@@ -1,5 +1,6 @@
 //! The engine: a place in a search tree.
-ghost use Rattle.std.specs.Prelude.{◌≡◌, ◌<◌, [], ◌∷◌, ◌++◌, true, false, length, IfOk, OnOk, OnErr};
+ghost use Rattle.std.specs.Prelude.{◌≡◌, ◌<◌, [], ◌∷◌, ◌++◌, true, false, length, IfOk, OnOk, OnErr, IsTrue};
+ghost use Rattle.pp_algebra.specs.Covers.{RowCovers};
 ghost use Rattle.pp_sld.specs.Leaves.{leaf_row};
 ghost use Rattle.pp_resolve.specs.Links.{IsRest};
 ghost use Rattle.pp_resolve.specs.Engines.{goal_of, place_of, IsKept, IsGood, IsSameSearch, IsSamePlace, HasMoreLinks, IsLinkOf};
@@ -90,5 +91,16 @@ impl<'a> Engine<'a> {
         ensures { IfOk result (λ r. r ≡ leaf_row (place_of self.now).here) }
     {
         self.history.bindings.resolve_row(self.columns.columns())
+    }
+
+    /// Whether the row is known to cover the one that the branch has come to.
+    pub(crate) fn is_covered(&mut self, by: &Row) -> Result<bool, AllocError>
+        requires good { IsGood self.old }
+        ensures good { IsGood self.new }
+        ensures same { IsSameSearch self.old self.new }
+        ensures place { place_of self.new ≡ place_of self.old }
+        ensures covers { IfOk result (λ is. IsTrue is → RowCovers by.now (leaf_row (place_of self.old).here)) }
+    {
+        self.history.bindings.is_covered(self.columns.columns(), by)
     }
 }

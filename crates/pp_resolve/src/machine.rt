@@ -1,17 +1,18 @@
 //! The machine, as a caller sees it.
-ghost use Rattle.std.specs.Prelude.{◌≡◌, ◌+◌, ◌≤◌, [], IfOk, OnErr};
+ghost use Rattle.std.specs.Prelude.{◌≡◌, ◌+◌, ◌≤◌, [], IfOk, OnErr, IsTrue};
+ghost use Rattle.pp_algebra.specs.Covers.{RowCovers};
 ghost use Rattle.pp_algebra.specs.Terms.{count};
 ghost use Rattle.pp_sld.specs.Leaves.{leaf_row, root};
 ghost use Rattle.pp_sld.specs.Ways.{next};
 ghost use Rattle.pp_term.specs.Meanings.{program, shape_of};
 ghost use Rattle.pp_term.specs.WellFormed.{arguments_of};
-ghost use Rattle.pp_walk.specs.Moves.{Stepped, step_cost, IsAtChoice, HasChoice, Chose, IsNextPlace, WentBack};
+ghost use Rattle.pp_walk.specs.Moves.{Stepped, step_cost, IsAtChoice, HasChoice, Chose, Committed, IsNextPlace, IsNext, WentBack};
 
 use crate::engine::Engine;
 use pp_clause::Clauses;
 use pp_row::Row;
 use pp_term::Shape;
-use pp_walk::{Event, SearchMachine, Steps};
+use pp_walk::{Event, Next, SearchMachine, Steps};
 use std::alloc::{AllocError, Global};
 use std::marker::Model;
 use std::sync::ledger::Ledger;
@@ -93,11 +94,40 @@ impl<'a> Machine<'a> {
         self.engine.place_from(from)
     }
 
+    /// The same, and whether a look at a few places behind it tells that it is the last one.
+    pub fn next_from(&self, from: u64) -> Next
+        requires choice { IsAtChoice (program self.now.clauses) self.now.place.here }
+        ensures { IsNext (program self.now.clauses) self.now.place.here from result }
+    {
+        self.engine.next_from(from)
+    }
+
+    /// Goes the way of the alternative at a place for good: `back` goes to the choice above. False where it fails,
+    /// and then the machine stands where it stood.
+    pub fn commit<L: Ledger>(&mut self, at: u64, steps: &mut Steps<L>) -> Result<bool, AllocError>
+        requires choice { HasChoice (program self.old.clauses) self.old.place.here at }
+        ensures clauses { self.new.clauses ≡ self.old.clauses }
+        ensures committed { IfOk result (λ goes. Committed (program self.old.clauses) self.old.place at goes self.new.place) }
+        ensures err { OnErr result (self.new.place ≡ self.old.place) }
+        ensures steps { steps.new ≡ steps.old + 1 }
+    {
+        self.engine.commit(at, steps)
+    }
+
     /// The row that the branch has come to.
     pub fn row(&self) -> Result<Row, AllocError>
         ensures { IfOk result (λ row. row ≡ leaf_row self.now.place.here) }
     {
         self.engine.row()
+    }
+
+    /// Whether the row is known to cover the one that the branch has come to, which isn't made.
+    pub fn is_covered(&mut self, by: &Row) -> Result<bool, AllocError>
+        ensures clauses { self.new.clauses ≡ self.old.clauses }
+        ensures place { self.new.place ≡ self.old.place }
+        ensures covers { IfOk result (λ is. IsTrue is → RowCovers by.now (leaf_row self.old.place.here)) }
+    {
+        self.engine.is_covered(by)
     }
 }
 
@@ -120,11 +150,23 @@ impl<'a> SearchMachine for Machine<'a> {
         Machine::place_from(self, from)
     }
 
+    fn next_from(&self, from: u64) -> Next {
+        Machine::next_from(self, from)
+    }
+
+    fn commit<L: Ledger>(&mut self, at: u64, steps: &mut Steps<L>) -> Result<bool, AllocError> {
+        Machine::commit(self, at, steps)
+    }
+
     fn back(&mut self) -> bool {
         Machine::back(self)
     }
 
     fn row(&self) -> Result<Row, AllocError> {
         Machine::row(self)
+    }
+
+    fn is_covered(&mut self, by: &Row) -> Result<bool, AllocError> {
+        Machine::is_covered(self, by)
     }
 }

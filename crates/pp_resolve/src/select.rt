@@ -199,19 +199,20 @@ impl<'a> Engine<'a> {
         }
         Ok(act)
     }
-    /// The same, and it is kept: until the engine moves, no goal is looked at again.
-    pub(crate) fn select(&mut self) -> Result<Option<Act>, AllocError>
+
+    /// Stands at the leftmost goal that doesn't wait, and keeps what is done with it; nothing where all wait. Until
+    /// the engine moves, no goal is looked at again.
+    pub(crate) fn select(&mut self) -> Result<(), AllocError>
         requires good { IsGood self.old }
         ensures same { IsSamePlace self.old self.new }
         ensures wait { OnOk result (AllWait self.new) }
-        ensures sees { IfOk result (Sees self.new) }
-        ensures ready { IfOk result (λ act. act ≢ Some Wait) }
+        ensures sees { OnOk result (Sees self.new self.new.front.selected) }
+        ensures ready { OnOk result (self.new.front.selected ≢ Some Wait) }
     {
-        if let Some(act) = self.front.selected {
-            return Ok(Some(act));
+        if self.front.selected.is_some() {
+            return Ok(());
         }
-        let act = self.find()?;
-        self.front.selected = act;
-        Ok(act)
+        self.front.selected = self.find()?;
+        Ok(())
     }
 }

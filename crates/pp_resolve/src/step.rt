@@ -33,7 +33,7 @@ fn alternatives(count: u64) -> Event
 }
 
 /// Does what is done with a goal; false where nothing solves it, and then nothing is changed.
-fn solve(
+pub(crate) fn solve(
     bindings: &mut Bindings,
     goal: &GoalAt<'_>,
     first: u32,
@@ -62,33 +62,32 @@ fn solve(
 
 impl<'a> Engine<'a> {
     /// No goal is left that doesn't wait.
-    fn finish(&self) -> Result<Event, AllocError>
+    fn finish(&self) -> Event
         requires good { IsGood self.now }
         requires wait { AllWait self.now }
         requires none { left self.now ≡ [] }
-        ensures stepped { IfOk result (λ e. Stepped (program self.now.clauses.now) (place_of self.now) e (place_of self.now)) }
+        ensures stepped { Stepped (program self.now.clauses.now) (place_of self.now) result (place_of self.now) }
         ensures cost { step_cost (follows self.now) ≡ 0 }
     {
-        let row = self.row()?;
         if self.front.passed == 0 {
-            Ok(Event::Answer(row))
+            Event::Answer
         } else {
-            Ok(Event::Loose(row))
+            Event::Loose
         }
     }
 
     /// A call is selected.
-    fn meet_call(&self, predicate: u32) -> Result<Event, AllocError>
+    fn meet_call(&self, predicate: u32) -> Event
         requires good { IsGood self.now }
         requires wait { AllWait self.now }
         requires sees { Sees self.now (Some (Call predicate)) }
-        ensures stepped { IfOk result (λ e. Stepped (program self.now.clauses.now) (place_of self.now) e (place_of self.now)) }
+        ensures stepped { Stepped (program self.now.clauses.now) (place_of self.now) result (place_of self.now) }
         ensures cost { step_cost (follows self.now) ≡ 0 }
     {
         if self.front.depth == 0 {
-            return Ok(Event::Loose(self.row()?));
+            return Event::Loose;
         }
-        Ok(alternatives(self.clauses.count_at(predicate) as u64))
+        alternatives(self.clauses.count_at(predicate) as u64)
     }
 
     /// A choice of values is selected.
@@ -147,9 +146,10 @@ impl<'a> Engine<'a> {
         ensures steps { IfOk result (λ _. steps.new ≡ steps.old + step_cost (follows self.old)) }
         ensures at_most { OnErr result (steps.new ≤ steps.old + step_cost (follows self.old)) }
     {
-        match self.select()? {
-            None => self.finish(),
-            Some(Act::Call(predicate)) => self.meet_call(predicate),
+        self.select()?;
+        match self.front.selected {
+            None => Ok(self.finish()),
+            Some(Act::Call(predicate)) => Ok(self.meet_call(predicate)),
             Some(Act::Split) => Ok(self.meet_split()),
             Some(Act::Fail) => {
                 steps.tick();

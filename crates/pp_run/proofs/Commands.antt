@@ -11,7 +11,7 @@ use Rattle.pp_language.specs.Commands.{AreWordsOf, AreWordsOfAlone}
 use Rattle.pp_language.specs.Generator.{make_text}
 use Rattle.pp_language.proofs.CommandsRead.{one_command}
 use Rattle.pp_propagation.specs.Watchers.{Watcher}
-use Rattle.pp_propagation.specs.Replies.{IsUnserved, IsReplyToText, IsSummary, IsReplyBy, IsReply, served, text_of, NotedInARun, IsOutOfMemory, before_a_run, in_a_run}
+use Rattle.pp_propagation.specs.Replies.{IsUnserved, IsReplyToText, IsSummary, IsReplyBy, IsReply, served, text_of, IsOutOfMemory, before_a_run, in_a_run}
 use Rattle.pp_run.specs.Endings.{Replied, HasRead, HasReadText}
 use Rattle.pp_run.specs.Made.{HasNoted}
 

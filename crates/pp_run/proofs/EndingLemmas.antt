@@ -1,19 +1,17 @@
 -- From what was written to how the call ended.
-use Rattle.std.proofs.Common.{◌≡◌, ◌<◌, ◌≤◌, ℕ, Bool, List, [], length, refl, subst, sym, inl, inr, Option, Some, None, IfSome}
+use Rattle.std.proofs.Common.{◌≡◌, ℕ, Bool, List, refl, subst, sym, inl, inr, Option, Some, None, IfSome}
 use Rattle.pp_language.specs.declared.command.Command.{Command}
 use Rattle.pp_language.specs.declared.command.Settings.{Settings}
 use Rattle.pp_language.specs.declared.status.Status.{Status}
 use Rattle.pp_language.specs.declared.status.Status.TheVariants.{Yes, No, Usage, Syntax, Stopped, Limit, ReadFault, WriteFault, Memory}
 use Rattle.pp_language.specs.Texts.{Text}
-use Rattle.pp_language.specs.declared.limits.TheConstants.{TEXT_LIMIT}
-use Rattle.pp_language.specs.Answers.{usage_text, length_text}
+use Rattle.pp_language.specs.Answers.{usage_text}
 use Rattle.pp_propagation.specs.Watchers.{Watcher}
 use Rattle.pp_propagation.specs.Runs.{End, yes, no, stopped}
 use Rattle.pp_propagation.specs.Replies.{status_of, IsUnserved, IsReplyToText, IsSummary, IsReply, usage}
-use Rattle.pp_io.specs.Ends.{Took, GaveAll}
+use Rattle.pp_io.specs.Ends.{Took}
 use Rattle.pp_run.proofs.Replying.{of_reply}
 use Rattle.pp_run.specs.Endings.{Replied, Wrote}
-use Rattle.pp_run.specs.Made.{HasNoted}
 
 pub each_told : {A : Type 0} (P : A → Type 0) (o : Option A) → ((x : A) → P x) → IfSome o P
 each_told P None each = tt

@@ -1,5 +1,5 @@
 -- From the reply to a text to why it is refused.
-use Rattle.std.proofs.Common.{◌≡◌, ℕ, Bool, List, subst, sym, inl, inr, Option, Some, None, IfSome}
+use Rattle.std.proofs.Common.{◌≡◌, Bool, List, subst, sym, inl, inr, Option, Some, None, IfSome}
 use Rattle.pp_language.specs.declared.command.CommandKind.{CommandKind}
 use Rattle.pp_language.specs.declared.command.CommandKind.TheVariants.{Run, Alone, Make}
 use Rattle.pp_language.specs.declared.command.Command.{Command}

@@ -1,50 +1,33 @@
 -- From what a text writes, and what is answered for it, to the reply to the text.
-use Rattle.std.proofs.Common.{◌≡◌, ◌<◌, ◌≤◌, ℕ, Bool, List, [], ◌∷◌, ◌++◌, length, map, Result, Ok, Err, IfOk, refl, ap, sym, ◌∙◌, subst, arith}
-use Rattle.std.specs.Prelude.{OnErr}
-use Rattle.pp_algebra.specs.Rows.{Row}
+use Rattle.std.proofs.Common.{◌≡◌, ◌<◌, ◌≤◌, ℕ, Bool, List, ◌++◌, length, map, Result, Ok, Err, IfOk, ap, sym, ◌∙◌, subst, arith}
 use Rattle.pp_language.specs.declared.command.Settings.{Settings}
 use Rattle.pp_language.specs.declared.status.Status.{Status}
 use Rattle.pp_language.specs.declared.status.Status.TheVariants as status
 use Rattle.pp_language.specs.declared.which.Which.{Which}
 use Rattle.pp_language.specs.Texts.{Text}
 use Rattle.pp_language.specs.Printing.{name_at}
-use Rattle.pp_language.specs.Programs.{QueryItem}
 use Rattle.pp_language.specs.Faults.{IsSyntaxFault}
 use Rattle.pp_language.specs.declared.limits.TheConstants.{TEXT_LIMIT}
 use Rattle.pp_language.specs.Limits.{Writes, Passes}
 use Rattle.pp_language.specs.Generator.{make_text}
 use Rattle.pp_language.specs.Answers.{syntax_text, which_name, limit_text, length_text}
-use Rattle.pp_propagation.specs.Stores.{goals_of}
 use Rattle.pp_propagation.specs.Histories.{unfinished_goals}
 use Rattle.pp_propagation.specs.Watchers.{Watcher}
 use Rattle.pp_propagation.specs.Runs.{End as Finished, yes, no, stopped}
 use Rattle.pp_propagation.specs.Replies.{status_of, answer_text, summary_by, told_if, IsReplyWithin, faulty, limited, answered, IsReplyToText, too_long, within, IsSummary}
 use Rattle.pp_term.specs.Meanings.{program}
-use Rattle.pp_build.specs.Meanings as reading
 use Rattle.pp_read.specs.declared.program.Program.{Program}
 use Rattle.pp_read.specs.Programs.{written_of}
-use Rattle.pp_store.specs.Queries.{query_by}
+use Rattle.pp_store.specs.Queries.{query_by, goals_in}
 use Rattle.pp_fix.specs.Fixing.{end_by}
 use Rattle.pp_run.specs.declared.run.Ran.{Ran}
 use Rattle.pp_run.specs.Endings.{IsOrdinary}
 use Rattle.pp_run.specs.Made.{IsRan}
-use Rattle.pp_run.proofs.Running.{items_same, run_read}
-
-pub ok_map : {T E : Type 0} (P Q : T → Type 0) (r : Result T E) → ((x : T) → P x → Q x) → IfOk r P → IfOk r Q
-ok_map P Q (Ok x) f h = f x h
-ok_map P Q (Err e) f h = tt
+use Rattle.pp_run.proofs.Running.{run_read}
 
 pub both_ok : {T E : Type 0} (P Q R : T → Type 0) (r : Result T E) → ((x : T) → P x → Q x → R x) → IfOk r P → IfOk r Q → IfOk r R
 both_ok P Q R (Ok x) f h k = f x h k
 both_ok P Q R (Err e) f h k = tt
-
-pub on_err : {T E : Type 0} (P : Type 0) (r : Result T E) → P → OnErr r P
-on_err P (Ok x) h = tt
-on_err P (Err e) h = h
-
-pub err_map : {T E : Type 0} (P Q : Type 0) (r : Result T E) → (P → Q) → OnErr r P → OnErr r Q
-err_map P Q (Ok x) f h = tt
-err_map P Q (Err e) f h = f h
 
 -- ===== a text that is refused
 
@@ -72,8 +55,8 @@ module _ (settings : Settings) (p : Program) (text : Text) (writes : Writes text
       answered (written_of p) k.run (record { writes = writes; is_run = run_read settings p k.run k.is_run }) k.watched (t ∙ ap status_of (sym k.ends)) (
       u ∙ ap (λ bs. told_if trace p.names new ++ bs) (
       ap (λ x. answer_text p.names named x r.fixed.unfinished (end_by r.fixed.end)) (sym k.has_store)
-      ∙ ap (λ ks. answer_text p.names named k.run.store ks (end_by r.fixed.end)) (k.unfinished ∙ ap (λ (qs : List QueryItem). unfinished_goals (length (goals_of qs)) k.run.history) (items_same p.query.items))
-      ∙ ap (answer_text p.names named k.run.store (unfinished_goals (length (goals_of (map reading.item_of p.query.items))) k.run.history)) (sym k.ends)
+      ∙ ap (λ ks. answer_text p.names named k.run.store ks (end_by r.fixed.end)) k.unfinished
+      ∙ ap (answer_text p.names named k.run.store (unfinished_goals (length (goals_in p.query)) k.run.history)) (sym k.ends)
       ))
 
 module _ (settings : Settings) (p : Program) (n : ℕ) (writes : Writes (make_text n) (written_of p)) (old new : List Watcher) (r : Ran) (k : IsRan (program p.clauses) (query_by p.query) settings old new r) (s : Status) (b : Text) where

@@ -1,29 +1,25 @@
 -- The run of a query that was read, and what the watchers have noted of it.
-use Rattle.std.proofs.Common.{◌≡◌, ◌≢◌, ℕ, zero, suc, ◌+◌, ◌≤◌, List, [], ◌∷◌, ◌++◌, length, map, filter, Some, None, Option, All, refl, ap, sym, ◌∙◌, subst, inl, inr, arith}
+use Rattle.std.proofs.Common.{◌≡◌, ℕ, zero, suc, ◌+◌, List, [], ◌∷◌, ◌++◌, length, filter, None, All, refl, ap, sym, ◌∙◌, subst, inl, inr, arith}
 use Rattle.pp_algebra.specs.Rows.{Row}
-use Rattle.pp_algebra.specs.Solve.{IsSolved, HasNone}
 use Rattle.pp_sld.specs.Goals.{Program as Rules}
 use Rattle.pp_sld.specs.Verdicts.{Verdict, fail, same, nothing, unfinished, narrow}
 use Rattle.pp_language.specs.declared.command.Settings.{Settings}
 use Rattle.pp_language.specs.Texts.{Text}
-use Rattle.pp_language.specs.Programs.{QueryItem, Query}
+use Rattle.pp_language.specs.Programs.{Query}
 use Rattle.pp_language.specs.Limits.{Writes}
-use Rattle.pp_propagation.specs.Stores.{Asked, items_of, goals_of, unknowns, Begins, BeginsNowhere}
-use Rattle.pp_propagation.specs.Turns.{Commit, State, turned, Turn}
+use Rattle.pp_propagation.specs.Stores.{Asked, goals_of, Begins, BeginsNowhere}
+use Rattle.pp_propagation.specs.Turns.{Commit, State, turned}
 use Rattle.pp_propagation.specs.Histories.{with_change, changes_from, changes, is_unfinished, last_verdict, numbers_from}
 use Rattle.pp_propagation.specs.Watchers.{Watcher, HasRoom, after}
-use Rattle.pp_propagation.specs.Runs.{Run, no_store, opening, Turns, HaveNoted, all_changes, Ends, none_waits, turns_are_made, goal_fails, IsRunFrom, IsRun, begins, begins_nowhere}
+use Rattle.pp_propagation.specs.Runs.{Run, no_store, all_changes, Ends, none_waits, turns_are_made, goal_fails, IsRunFrom, IsRun, begins, begins_nowhere}
 use Rattle.pp_propagation.specs.Replies.{NotedInARun}
 use Rattle.pp_propagation.proofs.Watching.{nothing_noted}
 use Rattle.pp_term.specs.declared.clause.Clause.{Clause}
 use Rattle.pp_term.specs.declared.query.Query.{Query as Asks}
-use Rattle.pp_term.specs.declared.query.Item.{Item}
-use Rattle.pp_term.specs.declared.query.Item.TheVariants.{Equate, Member, Infer}
 use Rattle.pp_term.specs.Meanings.{program}
 use Rattle.pp_build.specs.Meanings as reading
 use Rattle.pp_read.specs.declared.program.Program.{Program}
 use Rattle.pp_read.specs.Programs.{written_of}
-use Rattle.pp_store.specs.Queries as stores
 use Rattle.pp_store.specs.Queries.{query_by, goals_in}
 use Rattle.pp_fix.specs.declared.fix.Fixed.{Fixed}
 use Rattle.pp_fix.specs.Fixing.{IsFixed, IsBetweenTurns}
@@ -118,20 +114,10 @@ module _ (table clauses : List Clause) (same_clauses : table ≡ clauses) (setti
 
 -- ===== the query that is run is the one that was read
 
-pub items_same : (is : List Item) → map stores.item_of is ≡ map reading.item_of is
-items_same [] = refl
-items_same (Equate a b ∷ is) = ap (λ qs. reading.item_of (Equate a b) ∷ qs) (items_same is)
-items_same (Member t d ∷ is) = ap (λ qs. reading.item_of (Member t d) ∷ qs) (items_same is)
-items_same (Infer s ts m ∷ is) = ap (λ qs. reading.item_of (Infer s ts m) ∷ qs) (items_same is)
-
 module _ (settings : Settings) (p : Program) where
   pub run_read : (r : Run) → IsRun (program p.clauses) (query_by p.query) settings.depth settings.turns r → IsRun (program p.clauses) (reading.query_of p.names p.query) settings.depth settings.turns r
-  run_read r (begins_nowhere h e) =
-      let none = subst (λ (qs : List QueryItem). HasNone (unknowns (query_by p.query)) (items_of qs)) (items_same p.query.items) h in
-      begins_nowhere none e
-  run_read r (begins begun h k) =
-      let solved = subst (λ (qs : List QueryItem). IsSolved (unknowns (query_by p.query)) (items_of qs) begun) (items_same p.query.items) h in
-      begins begun solved (subst (λ (qs : List QueryItem). IsRunFrom (program p.clauses) (goals_of qs) settings.depth settings.turns begun r) (items_same p.query.items) k)
+  run_read r (begins_nowhere h e) = begins_nowhere h e
+  run_read r (begins begun h k) = begins begun h k
 
   module _ (text : Text) (writes : Writes text (written_of p)) (old new : List Watcher) where
     turns_read : NotedInTurns (program p.clauses) (query_by p.query) settings old new → NotedInARun settings text old new
@@ -139,12 +125,12 @@ module _ (settings : Settings) (p : Program) where
       written = written_of p;
       writes = writes;
       store = k.store;
-      begins = subst (λ (qs : List QueryItem). IsSolved (unknowns (query_by p.query)) (items_of qs) k.store) (items_same p.query.items) k.begins;
+      begins = k.begins;
       made = k.made;
       within = k.within;
       state = k.state;
-      leads = subst (λ (qs : List QueryItem). Turns (program p.clauses) (goals_of qs) settings.depth k.made (opening (goals_of qs) k.store) k.state) (items_same p.query.items) k.leads;
-      noted = subst (λ (qs : List QueryItem). HaveNoted (program p.clauses) (goals_of qs) settings.depth k.state old new) (items_same p.query.items) k.noted;
+      leads = k.leads;
+      noted = k.noted;
     }
 
     pub noted_read : HasNotedOf (program p.clauses) (query_by p.query) settings old new → HasNoted settings text old new

@@ -1,5 +1,5 @@
 -- From what was read and the run of it to what was written.
-use Rattle.std.proofs.Common.{◌≡◌, ◌<◌, ◌≤◌, ℕ, Bool, List, ◌++◌, length, map, Result, Ok, Err, refl, ap, sym, ◌∙◌, subst, Option, Some, None, All}
+use Rattle.std.proofs.Common.{◌≡◌, ◌<◌, ◌≤◌, ℕ, Bool, List, ◌++◌, length, map, Result, Ok, Err, refl, sym, ◌∙◌, subst, Option, Some, None, All}
 use Rattle.std.specs.Prelude.{IfSome, IfOk, OnErr}
 use Rattle.pp_language.specs.declared.command.Settings.{Settings}
 use Rattle.pp_language.specs.declared.status.Status.{Status}

@@ -51,6 +51,14 @@ impl Gatherer for Gathered {
         self.collector.add_loose(row)
     }
 
+    fn answer_cover(&self) -> Option<&Row> {
+        self.collector.answer_cover()
+    }
+
+    fn loose_cover(&self) -> Option<&Row> {
+        self.collector.loose_cover()
+    }
+
     fn is_settled(&self) -> bool {
         self.collector.is_settled()
     }

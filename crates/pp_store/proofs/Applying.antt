@@ -1,8 +1,8 @@
 -- Lists of terms, as the code has them: columns, arguments, and the faces of goals.
-use Rattle.std.proofs.Common.{◌≡◌, ℕ, ℤ, zero, suc, ◌+◌, ◌<◌, List, [], ◌∷◌, ◌++◌, map, length, Option, take, append-nil, append_assoc, refl, ap, sym, ◌∙◌, subst, arith}
+use Rattle.std.proofs.Common.{◌≡◌, ℕ, ℤ, zero, suc, ◌+◌, ◌<◌, List, [], ◌∷◌, ◌++◌, map, length, Option, take, refl, ap, sym, ◌∙◌, arith}
 use Rattle.std.specs.Prelude.{nat_eq, slice_index_or}
 use Rattle.std.proofs.lemmas.List.{take_more, map_push}
-use Rattle.pp_algebra.specs.Terms.{Tree, Trees, variable, more, put, put_all, variables, variables_all, count}
+use Rattle.pp_algebra.specs.Terms.{Tree, Trees, variable, put, put_all, variables, variables_all}
 use Rattle.pp_algebra.specs.Rows.{domain_at}
 use Rattle.pp_algebra.specs.Covers.{IsIn}
 use Rattle.pp_algebra.specs.Canon.{firsts, canon}

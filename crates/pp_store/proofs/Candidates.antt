@@ -1,5 +1,5 @@
 -- The goals of a query as they are listed, by their numbers and by the variables that they name.
-use Rattle.std.proofs.Common.{◌≡◌, ℕ, zero, suc, ◌+◌, ◌-◌, ◌^◌, ◌<◌, ◌≤◌, ◌⊎◌, inl, inr, true, false, Bool, List, [], ◌∷◌, ◌++◌, length, map, get_or, Some, None, All, refl, ap, sym, ◌∙◌, subst, arith}
+use Rattle.std.proofs.Common.{◌≡◌, ℕ, zero, suc, ◌+◌, ◌-◌, ◌^◌, ◌<◌, ◌≤◌, ◌⊎◌, inl, inr, true, false, List, [], ◌∷◌, ◌++◌, length, map, get_or, Some, None, All, refl, ap, sym, ◌∙◌, subst, arith}
 use Rattle.std.specs.Prelude.{nat_eq, IsSorted}
 use Rattle.std.specs.List.{list_any, IsDistinct}
 use Rattle.std.specs.Ordering.{nat_cmp}
@@ -8,11 +8,11 @@ use Rattle.std.proofs.lemmas.List.{map-append, length_push}
 use Rattle.std.proofs.lemmas.List.Elements.{All-nil, All-head, All-tail, All-push}
 use Rattle.std.proofs.lemmas.List.Sorted.{IsNonDecreasingBy-from_sort}
 use Rattle.std.proofs.lemmas.Map.Keys.{IsStrictlyIncreasing-from_distinct, sorted_from_strictly_increasing, below_from_sorted}
-use Rattle.pp_algebra.specs.Terms.{Tree, variables_all}
+use Rattle.pp_algebra.specs.Terms.{variables_all}
 use Rattle.pp_algebra.specs.Covers.{IsIn}
 use Rattle.pp_algebra.specs.Canon.{has}
 use Rattle.pp_algebra.proofs.CanonLemmas.{nat_eq-IsSame}
-use Rattle.pp_propagation.specs.Stores.{Asked, goals_of}
+use Rattle.pp_propagation.specs.Stores.{Asked}
 use Rattle.pp_propagation.specs.Turns.{goal_at}
 use Rattle.pp_row.proofs.Keys.{any_has, map_same}
 use Rattle.pp_row.specs.Columns.{trees_of}
@@ -20,7 +20,7 @@ use Rattle.pp_store.specs.declared.goals.Annotated.{Annotated}
 use Rattle.pp_store.specs.Ascending.{IsAscending}
 use Rattle.pp_store.specs.Naming.{AreNamed, IsIndex, AreCandidates}
 use Rattle.pp_store.specs.Occurring.{Stands, HasMore, AreGathered}
-use Rattle.pp_store.specs.Queries.{asked_by, goals_in, AreArgumentsOf, IsGoalAt}
+use Rattle.pp_store.specs.Queries.{asked_by, goals_in, AreArgumentsOf}
 use Rattle.pp_store.proofs.Lists.{has_in, in_has}
 use Rattle.pp_term.specs.declared.query.Query.{Query}
 

@@ -1,17 +1,16 @@
 -- The goals whose face isn't what it was, among ascending candidates.
-use Rattle.std.proofs.Common.{◌≡◌, ℕ, zero, suc, ◌+◌, ◌<◌, ◌≤◌, ◌⊎◌, inl, inr, Bool, true, false, List, [], ◌∷◌, ◌++◌, length, Some, None, refl, ap, sym, ◌∙◌, subst, arith}
-use Rattle.std.specs.Prelude.{◌↔◌, IsTrue, not, ◌&&◌, cond, filter, nat_eq}
+use Rattle.std.proofs.Common.{◌≡◌, ℕ, suc, ◌+◌, ◌<◌, ◌≤◌, inl, inr, Bool, true, false, List, [], ◌∷◌, length, Some, refl, ap, sym, ◌∙◌, arith}
+use Rattle.std.specs.Prelude.{◌↔◌, IsTrue, not, ◌&&◌, cond, filter}
 use Rattle.std.proofs.lemmas.Bool.{cases_eq}
 use Rattle.pp_algebra.specs.Rows.{Row}
 use Rattle.pp_algebra.specs.Covers.{IsIn}
-use Rattle.pp_algebra.specs.Canon.{has, same_row}
-use Rattle.pp_algebra.proofs.CanonLemmas.{nat_eq-IsSame}
-use Rattle.pp_algebra.proofs.OneCanon.{not_has}
+use Rattle.pp_algebra.specs.Canon.{same_row}
 use Rattle.pp_algebra.proofs.SameRow.{same_row-sound, same_row-itself}
 use Rattle.pp_propagation.specs.Stores.{Asked, face}
 use Rattle.pp_propagation.specs.Turns.{goal_at, woken}
+use Rattle.pp_store.proofs.Numbering.{goal_there}
 use Rattle.pp_store.specs.Ascending.{IsAscending}
-use Rattle.pp_store.specs.Changing.{face_by, face_at, differs}
+use Rattle.pp_store.specs.Changing.{face_by, differs}
 
 pub same_tells : (r q s t : Row) (b : Bool) → IsTrue b ↔ (r ≡ q) → r ≡ s → q ≡ t → b ≡ same_row s t
 same_tells r q s t true h e f = sym (ap (same_row s) (sym f ∙ sym (h.0 refl) ∙ e) ∙ same_row-itself s)
@@ -64,10 +63,4 @@ pub woken_is : (old new : Row) (gs : List Asked) (ks : List ℕ) → IsAscending
 woken_is old new gs ks up within same =
     woken_from old new (differs gs old new) gs 1 ks up (λ k i. (let w = within k i in (w.0, omega (arith, w.1))))
     (λ i a e. ap (λ o. not (same_row (face_by old o) (face_by new o))) (ap (goal_at gs) (omega arith) ∙ e))
-    (λ k l m f. (let a = there gs k l (omega (arith, m)) in ap (λ o. not (same_row (face_by old o) (face_by new o))) a.1 ∙ ap (λ r. not (same_row (face old a.0.goal) r)) (same k a.0 a.1 f) ∙ ap not (same_row-itself (face old a.0.goal))))
-  where
-    there : (gs : List Asked) (k : ℕ) → 1 ≤ k → k ≤ length gs → (a : Asked) × (goal_at gs k ≡ Some a)
-    there [] k l m = absurd (omega (arith, l, m))
-    there (a ∷ later) zero l m = absurd (omega (arith, l))
-    there (a ∷ later) (suc zero) l m = (a, refl)
-    there (a ∷ later) (suc (suc k)) l m = there later (suc k) (omega arith) (omega (arith, m))
+    (λ k l m f. (let a = goal_there gs k l (omega (arith, m)) in ap (λ o. not (same_row (face_by old o) (face_by new o))) a.1 ∙ ap (λ r. not (same_row (face old a.0.goal) r)) (same k a.0 a.1 f) ∙ ap not (same_row-itself (face old a.0.goal))))

@@ -1,18 +1,18 @@
 -- The numbers that the variables of a row get that is applied, and lists that are written at several places.
-use Rattle.std.proofs.Common.{◌≡◌, ℕ, zero, suc, ◌+◌, ◌<◌, ◌≤◌, ◌⊎◌, inl, inr, Bool, true, false, List, [], ◌∷◌, ◌++◌, length, map, get_or, set, take, Option, refl, ap, sym, ◌∙◌, subst, arith, ℤ}
+use Rattle.std.proofs.Common.{◌≡◌, ℕ, zero, suc, ◌+◌, ◌<◌, ◌≤◌, ◌⊎◌, inl, inr, Bool, true, false, List, [], ◌∷◌, ◌++◌, length, get_or, set, take, Option, refl, ap, sym, ◌∙◌, subst, arith, ℤ}
 use Rattle.std.specs.Prelude.{cond, nat_eq, ◌||◌}
 use Rattle.std.proofs.lemmas.Bool.{cases_eq, ne_eqb}
-use Rattle.std.proofs.lemmas.List.{get_or-set_same, get_or-set_other, length-set}
+use Rattle.std.proofs.lemmas.List.{length-set}
 use Rattle.pp_algebra.specs.Covers.{IsIn}
 use Rattle.pp_algebra.specs.Canon.{has, place, Distinct}
-use Rattle.pp_algebra.specs.Rows.{Domain, domain_at}
+use Rattle.pp_algebra.specs.Rows.{domain_at}
 use Rattle.pp_algebra.proofs.Bools.{nat_same, nat_is}
 use Rattle.pp_propagation.specs.Histories.{numbers_from}
 use Rattle.pp_row.specs.Columns.{sets_of, set_by}
 use Rattle.pp_store.specs.Numbers.{AreNumbers}
 use Rattle.pp_store.specs.Written.{written}
 use Rattle.pp_store.proofs.Lists.{has_in, in_has, not_in}
-use Rattle.pp_store.proofs.Noting.{has_before, firsts_has}
+use Rattle.pp_store.proofs.Noting.{has_before}
 use Rattle.pp_store.proofs.Renumbered.{has_apart, has-get}
 
 -- ===== fresh numbers

@@ -11,5 +11,5 @@ mod FreshNumbers
 mod Lists
 mod Making
 mod Noting
-mod Opening
+pub mod Opening
 mod Planning

@@ -1,6 +1,7 @@
 -- Lists of numbers, terms and domains, place by place.
 use Rattle.std.proofs.Common.{◌≡◌, ℕ, zero, suc, ◌+◌, ◌<◌, inl, inr, Bool, true, false, List, [], ◌∷◌, ◌++◌, length, map, get_or, take, Option, All, refl, ap, sym, ◌∙◌, arith}
 use Rattle.std.specs.Prelude.{cond, filter, nat_eq, ◌||◌}
+use Rattle.std.proofs.lemmas.Bool.{or_right}
 use Rattle.std.proofs.lemmas.List.{map-append, take_more}
 use Rattle.std.proofs.lemmas.List.Elements.{All-nil, All-cons}
 use Rattle.pp_algebra.specs.Terms.{Tree, put, put_all, variables, variables_all}
@@ -28,10 +29,6 @@ pub in_has : (ks : List ℕ) (k : ℕ) → IsIn k ks → has nat_eq ks k ≡ tru
 in_has [] k i = absurd i
 in_has (x ∷ ks) k (inl e) = rw (e, nat_same k) refl
 in_has (x ∷ ks) k (inr i) = or_right (nat_eq x k) (has nat_eq ks k) (in_has ks k i)
-  where
-    or_right : (a b : Bool) → b ≡ true → (a || b) ≡ true
-    or_right true b h = refl
-    or_right false b h = h
 
 pub not_in : (ks : List ℕ) (k : ℕ) → (IsIn k ks → ⊥) → has nat_eq ks k ≡ false
 not_in ks k f = go (has nat_eq ks k) refl

@@ -1,21 +1,21 @@
 -- What a change that was made comes to: the row is applied, and goals that it doesn't touch keep their faces.
-use Rattle.std.proofs.Common.{◌≡◌, ℕ, ℤ, zero, suc, ◌+◌, ◌<◌, ◌≤◌, ◌⊎◌, inl, inr, Bool, true, false, List, [], ◌∷◌, length, map, get_or, Option, None, All, refl, ap, sym, ◌∙◌, subst, arith}
+use Rattle.std.proofs.Common.{◌≡◌, ℕ, ◌<◌, inl, inr, Bool, true, false, List, [], ◌∷◌, length, get_or, refl, ap, sym, ◌∙◌, subst, arith}
 use Rattle.std.specs.Prelude.{cond, filter, nat_eq}
-use Rattle.std.proofs.Math.ListN.{length-map}
 use Rattle.pp_algebra.specs.Terms.{Tree, Trees, variable, put, put_all, variables, variables_all}
-use Rattle.pp_algebra.specs.Rows.{Domains, Row, domain_at, IsNumbered, IsWide, IsRow}
+use Rattle.pp_algebra.specs.Rows.{Domains, Row, domain_at, IsWide, IsRow}
 use Rattle.pp_algebra.specs.Covers.{IsIn}
 use Rattle.pp_algebra.specs.Canon.{has, place, firsts, canon}
 use Rattle.pp_algebra.specs.Numbered.{column}
 use Rattle.pp_algebra.proofs.Put.{put-variable, put_all-variable}
-use Rattle.pp_algebra.proofs.Order.{variables-put, variables_all-put_all}
+use Rattle.pp_algebra.proofs.Order.{variables_all-put_all}
 use Rattle.pp_algebra.proofs.Antisym.{put-agree, put_all-agree}
 use Rattle.pp_algebra.proofs.CanonLemmas.{nat_eq-IsSame}
 use Rattle.pp_algebra.proofs.Renamed.{comes_from, canon_renamed}
 use Rattle.pp_algebra.proofs.Resume.{wide_at}
 use Rattle.pp_sld.specs.Goals.{Goal}
 use Rattle.pp_propagation.specs.Stores.{face, apply}
-use Rattle.pp_row.specs.Columns.{trees_of, sets_of, set_by, pattern_by}
+use Rattle.pp_row.specs.Columns.{trees_of, sets_of, pattern_by}
+use Rattle.pp_unify.proofs.Adding.{firsts-from}
 use Rattle.pp_store.specs.declared.pattern.Change.{Change}
 use Rattle.pp_store.specs.declared.pattern.Pattern.{Pattern}
 use Rattle.pp_store.specs.Occurring.{Stands}
@@ -28,8 +28,8 @@ use Rattle.pp_store.specs.Queries.{goals_in}
 use Rattle.pp_propagation.specs.Turns.{woken}
 use Rattle.pp_term.specs.declared.query.Query.{Query}
 use Rattle.pp_store.proofs.ChangedFaces.{woken_is}
-use Rattle.pp_store.proofs.Lists.{has_in, in_has, not_in, place_below, get-place, in_get, get_map, column_is_at, found_at, at_found, each_put, each_wide}
-use Rattle.pp_store.proofs.Renumbered.{column_in, under_in, face_of, first_names, apply_of}
+use Rattle.pp_store.proofs.Lists.{in_has, not_in, place_below, get-place, in_get, get_map, column_is_at, at_found, each_put, each_wide}
+use Rattle.pp_store.proofs.Renumbered.{column_in, under_in, face_of, apply_of}
 use Rattle.pp_algebra.proofs.Numbered.{numbered_below}
 
 abbrev names_of : (ℕ → Tree ℕ) → Trees ℕ → List ℕ
@@ -52,7 +52,7 @@ module _ (old : Pattern) (sound : IsSound old) (arguments : List (Tree ℕ)) (gi
   given_below w i = numbered_below (variables_all given.columns) 0 (length given.domains) w row.canonical i
 
   name_in : (v : ℕ) → IsIn v names → IsIn v (variables_all (trees_of old.columns.items))
-  name_in v i = under_in (trees_of old.columns.items) (trees_of arguments) v (first_names _ v i)
+  name_in v i = under_in (trees_of old.columns.items) (trees_of arguments) v (firsts-from _ v i)
 
   -- an untouched column has none of the names
   untouched : (k v : ℕ) → k < length old.columns.items → has nat_eq c.touched.keys k ≡ false → IsIn v (variables (column_at old.columns.items k)) → has nat_eq names v ≡ false

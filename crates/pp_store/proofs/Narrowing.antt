@@ -2,7 +2,7 @@
 use Rattle.std.proofs.Common.{◌≡◌, ℕ, ℤ, zero, suc, ◌<◌, Bool, true, false, [], ◌∷◌, length, get_or, arith, refl, ap, sym, subst, inl}
 use Rattle.std.specs.FinSet as set
 use Rattle.std.proofs.lemmas.List.Elements.{All-head}
-use Rattle.pp_algebra.specs.Terms.{Tree, int, node, variable, variables, count, put}
+use Rattle.pp_algebra.specs.Terms.{Tree, int, node, variable, variables, count}
 use Rattle.pp_algebra.specs.Rows.{Domain, Row, domain_at, pattern_of, IsRow}
 use Rattle.pp_algebra.specs.Covers.{IsIn}
 use Rattle.pp_algebra.specs.Solve.{membership, IsSolved, HasNone}

@@ -1,5 +1,5 @@
 -- Of each variable what it stands in, once more is noted.
-use Rattle.std.proofs.Common.{◌≡◌, ℕ, zero, suc, ◌+◌, ◌<◌, ◌≤◌, ◌⊎◌, inl, inr, Bool, true, false, List, [], ◌∷◌, ◌++◌, length, map, get_or, set, take, replicate, refl, ap, sym, ◌∙◌, subst, arith}
+use Rattle.std.proofs.Common.{◌≡◌, ℕ, zero, suc, ◌+◌, ◌<◌, ◌⊎◌, inl, inr, true, false, List, [], ◌∷◌, ◌++◌, length, map, get_or, set, take, refl, ap, sym, ◌∙◌, subst, arith}
 use Rattle.std.specs.Prelude.{cond, nat_eq, ◌||◌}
 use Rattle.std.specs.List.{list_any}
 use Rattle.std.proofs.lemmas.Bool.{cases_eq}
@@ -9,13 +9,12 @@ use Rattle.pp_algebra.specs.Covers.{IsIn}
 use Rattle.pp_algebra.specs.Canon.{has, firsts, Distinct}
 use Rattle.pp_algebra.proofs.CanonLemmas.{nat_eq-IsSame}
 use Rattle.pp_algebra.proofs.OneCanon.{distinct_push}
-use Rattle.pp_algebra.specs.Terms.{Tree, int, variables, variables_all}
 use Rattle.pp_algebra.proofs.Antisym.{IsIn-either}
 use Rattle.pp_row.proofs.Keys.{taken_number}
-use Rattle.pp_row.specs.Cells.{variables_in, variables_among, cells_of}
+use Rattle.pp_row.specs.Cells.{variables_in, variables_among}
 use Rattle.pp_row.specs.declared.cell.Cell.{Cell}
-use Rattle.pp_row.proofs.Renaming.{among-cells_of}
 use Rattle.pp_store.specs.Occurring.{Stands, HasMore, IsLonger, AreGathered}
+use Rattle.pp_store.proofs.Renumbered.{first_in}
 use Rattle.pp_store.proofs.Lists.{has_in, in_has}
 
 pub more_none : (ns : List ℕ) (ss : List (List ℕ)) → HasMore ns ss ss
@@ -69,12 +68,8 @@ firsts_only xs [] k h = inl h
 firsts_only xs (y ∷ ys) k h =
     elim (has nat_eq xs y) as (λ b. has nat_eq (cond b (firsts nat_eq xs ys) (firsts nat_eq (xs ++ y ∷ []) ys)) k ≡ true → (has nat_eq xs k ≡ true) ⊎ IsIn k (y ∷ ys)) [
       | true ↦ λ g. elim (firsts_only xs ys k g) [ inl a ↦ inl a | inr i ↦ inr (inr i) ]
-      | false ↦ λ g. elim (firsts_only (xs ++ y ∷ []) ys k g) [ inl a ↦ elim (has_pushed xs y k a) [ inl s ↦ inl s | inr i ↦ inr (only_first y k ys i) ] | inr i ↦ inr (inr i) ]
+      | false ↦ λ g. elim (firsts_only (xs ++ y ∷ []) ys k g) [ inl a ↦ elim (has_pushed xs y k a) [ inl s ↦ inl s | inr i ↦ inr (first_in y k ys i) ] | inr i ↦ inr (inr i) ]
     ] h
-  where
-    only_first : (y k : ℕ) (ys : List ℕ) → IsIn k (y ∷ []) → IsIn k (y ∷ ys)
-    only_first y k ys (inl e) = inl e
-    only_first y k ys (inr f) = absurd f
 
 pub firsts_all : (xs ys : List ℕ) (k : ℕ) → IsIn k ys → has nat_eq (firsts nat_eq xs ys) k ≡ true
 firsts_all xs [] k i = absurd i

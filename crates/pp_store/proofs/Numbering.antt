@@ -14,7 +14,8 @@ use Rattle.pp_term.specs.declared.query.Item.TheVariants.{Equate, Member, Infer}
 use Rattle.pp_term.specs.Meanings.{shape_of, mode_of}
 use Rattle.pp_term.specs.WellFormed.{AreBelow, IsItem, IsQuery}
 use Rattle.pp_term.specs.declared.query.Query.{Query}
-use Rattle.pp_store.specs.Queries.{item_of, goals_in, IsGoalIn}
+use Rattle.pp_query.specs.Meanings.{item_of}
+use Rattle.pp_store.specs.Queries.{goals_in, IsGoalIn}
 
 abbrev pub goals_from : List Item → List Asked
 goals_from es = goals_of (map item_of es)

@@ -1,10 +1,10 @@
 -- The pattern of a row, and what is known of its places.
-use Rattle.std.proofs.Common.{◌≡◌, ℕ, ℤ, zero, suc, Option, None, ◌++◌, ◌+◌, ◌<◌, ◌≤◌, ◌⊎◌, inl, inr, true, false, List, [], ◌∷◌, length, get_or, refl, ap, sym, ◌∙◌, subst, arith}
+use Rattle.std.proofs.Common.{◌≡◌, ℕ, ℤ, zero, suc, Option, None, ◌++◌, ◌+◌, ◌<◌, ◌≤◌, inl, inr, true, false, List, [], ◌∷◌, length, get_or, refl, ap, sym, ◌∙◌, subst, arith}
 use Rattle.std.specs.Prelude.{nat_eq, Result, Ok, Err, OnErr}
 use Rattle.std.proofs.lemmas.List.{length_push}
 use Rattle.std.proofs.Math.ListN.{length-map}
-use Rattle.pp_algebra.specs.Terms.{Tree, variables, variables_all, count}
-use Rattle.pp_algebra.specs.Rows.{Row, IsRow, AreWide, domain_at}
+use Rattle.pp_algebra.specs.Terms.{Tree, variables_all, count}
+use Rattle.pp_algebra.specs.Rows.{Row, IsRow, domain_at}
 use Rattle.pp_algebra.specs.Covers.{IsIn}
 use Rattle.pp_algebra.specs.Canon.{has, canon}
 use Rattle.pp_row.specs.Columns.{trees_of, sets_of, set_by}

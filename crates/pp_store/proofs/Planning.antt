@@ -1,8 +1,8 @@
 -- What applying a row changes, from the calls that find it out.
-use Rattle.std.proofs.Common.{◌≡◌, ℕ, ℤ, zero, suc, ◌+◌, ◌<◌, ◌≤◌, ◌⊎◌, inl, inr, Bool, true, false, List, [], ◌∷◌, length, map, get_or, pos, Option, All, refl, ap, sym, ◌∙◌, subst, arith}
+use Rattle.std.proofs.Common.{◌≡◌, ℕ, ◌<◌, ◌⊎◌, inl, inr, Bool, true, false, List, [], ◌∷◌, length, map, get_or, pos, All, refl, ap, sym, ◌∙◌, subst, arith}
 use Rattle.std.specs.Prelude.{cond, nat_eq}
 use Rattle.std.proofs.Math.ListN.{length-map}
-use Rattle.pp_algebra.specs.Terms.{Tree, Trees, int, variable, put, put_all, variables, variables_all}
+use Rattle.pp_algebra.specs.Terms.{Tree, int, variable, put, put_all, variables, variables_all}
 use Rattle.pp_algebra.specs.Rows.{Row, IsRow}
 use Rattle.pp_algebra.specs.Covers.{IsIn}
 use Rattle.pp_algebra.specs.Canon.{has, place, firsts, Distinct}
@@ -14,17 +14,17 @@ use Rattle.std.proofs.lemmas.List.Elements.{All-nil, All-cons}
 use Rattle.pp_sld.specs.Goals.{Goal}
 use Rattle.pp_propagation.specs.Stores.{face}
 use Rattle.pp_propagation.proofs.StoreRows.{face-variables}
-use Rattle.pp_row.specs.Columns.{trees_of, sets_of, set_by, pattern_by}
+use Rattle.pp_row.specs.Columns.{trees_of, set_by, pattern_by}
 use Rattle.pp_row.specs.Substitution.{term_at}
+use Rattle.pp_unify.proofs.Adding.{firsts-from}
 use Rattle.pp_store.specs.declared.pattern.Change.{Change}
 use Rattle.pp_store.specs.declared.pattern.Pattern.{Pattern}
 use Rattle.pp_store.specs.Numbers.{AreNumbers}
-use Rattle.pp_store.specs.Occurring.{AreGathered}
 use Rattle.pp_store.specs.Patterns.{column_at, row_in, names_at, under_numbers, IsSound, IsChange, IsMeant}
 use Rattle.pp_store.specs.Replacing.{replacement}
 use Rattle.pp_store.proofs.Lists.{in_has, in_get, get_map, found_at, at_found}
 use Rattle.pp_store.proofs.Noting.{firsts_distinct}
-use Rattle.pp_store.proofs.Renumbered.{column_in, under_in, first_names, names-canon, names_under}
+use Rattle.pp_store.proofs.Renumbered.{column_in, under_in, names-canon, names_under}
 use Rattle.pp_row.proofs.ColumnLists.{put-trees_of}
 use Rattle.pp_algebra.proofs.Numbered.{numbered_below}
 
@@ -44,7 +44,7 @@ pub names_distinct : (columns arguments : List (Tree ℕ)) (names : List ℕ) �
 names_distinct columns arguments names e = subst (Distinct nat_eq) (sym e) (firsts_distinct [] (variables_all (put_all (column (trees_of columns)) (trees_of arguments))) tt)
 
 pub name_below : (p : Pattern) → IsSound p → (arguments : List (Tree ℕ)) (names : List ℕ) → names ≡ names_at p.columns.items arguments → (v : ℕ) → IsIn v names → v < length p.domains.items
-name_below p sound arguments names e v i = sound.below v (under_in (trees_of p.columns.items) (trees_of arguments) v (first_names (variables_all (put_all (column (trees_of p.columns.items)) (trees_of arguments))) v (subst (IsIn v) e i)))
+name_below p sound arguments names e v i = sound.below v (under_in (trees_of p.columns.items) (trees_of arguments) v (firsts-from (variables_all (put_all (column (trees_of p.columns.items)) (trees_of arguments))) v (subst (IsIn v) e i)))
 
 pub row_below : (r : Row) → IsRow r → (w : ℕ) → IsIn w (variables_all r.columns) → w < length r.domains
 row_below r h w i = numbered_below (variables_all r.columns) 0 (length r.domains) w h.canonical i

@@ -1,14 +1,14 @@
 -- Terms in which some variables are replaced.
-use Rattle.std.proofs.Common.{◌≡◌, ℕ, ◌<◌, ◌≤◌, true, false, List, [], ◌∷◌, length, get_or, Some, refl, ap, sym, ◌∙◌, subst, All}
+use Rattle.std.proofs.Common.{◌≡◌, ℕ, ◌<◌, true, false, List, [], ◌∷◌, length, get_or, Some, refl, ap, sym, ◌∙◌}
 use Rattle.std.specs.Prelude.{cond, nat_eq}
 use Rattle.std.specs.List.{flat_map, list_any, position}
-use Rattle.pp_algebra.specs.Terms.{Tree, int, node, variable, put}
+use Rattle.pp_algebra.specs.Terms.{Tree, variable, put}
 use Rattle.pp_algebra.specs.Canon.{has, place}
 use Rattle.pp_algebra.specs.Numbered.{column}
 use Rattle.pp_algebra.proofs.CanonLemmas.{nat_eq-IsSame}
 use Rattle.pp_row.specs.declared.cell.Cell.{Cell}
 use Rattle.pp_row.specs.declared.cell.Cell.TheVariants.{Int, Atom, Compound, Var}
-use Rattle.pp_row.specs.Cells.{cells_of, IsLegalCell}
+use Rattle.pp_row.specs.Cells.{cells_of}
 use Rattle.pp_row.specs.Codes.{tree_of-cells_of}
 use Rattle.pp_row.specs.Columns.{trees_of}
 use Rattle.pp_row.specs.Reading.{tree_of}

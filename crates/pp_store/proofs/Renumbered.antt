@@ -1,15 +1,17 @@
 -- A store that is kept under any numbers: its faces, and what a row that is applied makes of it.
 use Rattle.std.proofs.Common.{◌≡◌, ℕ, zero, suc, ◌<◌, ◌⊎◌, inl, inr, Bool, true, false, List, [], ◌∷◌, ◌++◌, length, map, get_or, Option, Some, None, refl, ap, sym, ◌∙◌, subst, arith}
-use Rattle.std.specs.Prelude.{cond, nat_eq, ◌||◌}
+use Rattle.std.specs.Prelude.{cond, nat_eq}
+use Rattle.std.specs.Cmp.{both_ways}
+use Rattle.std.proofs.lemmas.Bool.{or_right}
 use Rattle.std.proofs.lemmas.List.{map-append}
 use Rattle.std.proofs.lemmas.List.Concat.{flat_map_single}
-use Rattle.pp_algebra.specs.Terms.{Tree, int, node, variable, Trees, none, more, put, put_all, variables, variables_all}
+use Rattle.pp_algebra.specs.Terms.{Tree, variable, Trees, none, more, put, put_all, variables, variables_all}
 use Rattle.pp_algebra.specs.Rows.{Domains, Pattern, Row, domain_at}
 use Rattle.pp_algebra.specs.Covers.{IsIn}
 use Rattle.pp_algebra.specs.Canon.{has, place, firsts, canon, Distinct}
 use Rattle.pp_algebra.specs.Numbered.{column}
 use Rattle.pp_algebra.proofs.Bools.{nat_same, nat_is}
-use Rattle.pp_algebra.proofs.Put.{put-put, put_all-put_all, put_all-variable}
+use Rattle.pp_algebra.proofs.Put.{put-put, put_all-put_all}
 use Rattle.pp_algebra.proofs.Order.{IsIn-left, IsIn-right, variables-put, variables_all-put_all}
 use Rattle.pp_algebra.proofs.Antisym.{put_all-agree, IsIn-either}
 use Rattle.pp_algebra.proofs.CanonLemmas.{nat_eq-IsSame, at, at-place, has-all, domain_at-place}
@@ -17,6 +19,7 @@ use Rattle.pp_algebra.proofs.Renamed.{comes_from, canon_renamed}
 use Rattle.pp_sld.specs.Goals.{Goal}
 use Rattle.pp_propagation.specs.Stores.{face, face_variables, either_domains, same_either, replaced_by, apply}
 use Rattle.pp_propagation.proofs.StoreRows.{same_either-IsSame}
+use Rattle.pp_unify.proofs.Adding.{firsts-from}
 use Rattle.pp_store.specs.Replacing.{replacement}
 use Rattle.pp_store.specs.Written.{written}
 
@@ -40,13 +43,7 @@ under_in columns arguments v i =
 
 -- ===== other numbers, that can be taken back
 
-same_bits : (a b : Bool) → (a ≡ true → b ≡ true) → (b ≡ true → a ≡ true) → a ≡ b
-same_bits true true h k = refl
-same_bits true false h k = sym (h refl)
-same_bits false true h k = k refl
-same_bits false false h k = refl
-
-first_in : (x y : ℕ) (xs : List ℕ) → IsIn y (x ∷ []) → IsIn y (x ∷ xs)
+pub first_in : (x y : ℕ) (xs : List ℕ) → IsIn y (x ∷ []) → IsIn y (x ∷ xs)
 first_in x y xs (inl e) = inl e
 first_in x y xs (inr h) = absurd h
 
@@ -55,7 +52,7 @@ module _ (f g : ℕ → ℕ) where
   AreBack xs = (x : ℕ) → IsIn x xs → g (f x) ≡ x
 
   eq-map : (x v : ℕ) → g (f x) ≡ x → g (f v) ≡ v → nat_eq (f x) (f v) ≡ nat_eq x v
-  eq-map x v a b = same_bits (nat_eq (f x) (f v)) (nat_eq x v)
+  eq-map x v a b = both_ways (nat_eq (f x) (f v)) (nat_eq x v)
       (λ h. subst (λ y. nat_eq x y ≡ true) (sym a ∙ ap g (nat_is (f x) (f v) h) ∙ b) (nat_same x))
       (λ h. subst (λ y. nat_eq (f x) (f y) ≡ true) (nat_is x v h) (nat_same (f x)))
 
@@ -79,17 +76,6 @@ module _ (f g : ℕ → ℕ) where
         | false ↦ ap (λ ys. firsts nat_eq ys (map f xs)) (sym (map-append f seen (x ∷ []))) ∙ firsts-map (seen ++ x ∷ []) xs (back-push seen xs x h k) (λ y i. k y (inr i))
       ]
 
-firsts_in : (seen xs : List ℕ) (v : ℕ) → IsIn v (firsts nat_eq seen xs) → IsIn v seen ⊎ IsIn v xs
-firsts_in seen [] v i = inl i
-firsts_in seen (x ∷ xs) v i =
-    elim (has nat_eq seen x) as (λ b. IsIn v (cond b (firsts nat_eq seen xs) (firsts nat_eq (seen ++ x ∷ []) xs)) → IsIn v seen ⊎ IsIn v (x ∷ xs)) [
-      | true ↦ λ j. elim (firsts_in seen xs v j) [ inl a ↦ inl a | inr b ↦ inr (inr b) ]
-      | false ↦ λ j. elim (firsts_in (seen ++ x ∷ []) xs v j) [ inl a ↦ elim (IsIn-either v seen (x ∷ []) a) [ inl c ↦ inl c | inr d ↦ inr (first_in x v xs d) ] | inr b ↦ inr (inr b) ]
-    ] i
-
-pub first_names : (xs : List ℕ) (v : ℕ) → IsIn v (firsts nat_eq [] xs) → IsIn v xs
-first_names xs v i = elim (firsts_in [] xs v i) [ inl a ↦ absurd a | inr b ↦ b ]
-
 pub variables-renamed : (f : ℕ → ℕ) (ts : Trees ℕ) → variables_all (put_all (λ v. variable (f v)) ts) ≡ map f (variables_all ts)
 variables-renamed f ts = variables_all-put_all (λ v. variable (f v)) ts ∙ flat_map_single f (variables_all ts)
 
@@ -99,10 +85,6 @@ pub has-get : (ns : List ℕ) (w : ℕ) → w < length ns → has nat_eq ns (get
 has-get [] w l = absurd (omega (arith, l))
 has-get (x ∷ ns) zero l = rw (nat_same x) refl
 has-get (x ∷ ns) (suc w) l = or_right (nat_eq x (get_or ns w 0)) (has nat_eq ns (get_or ns w 0)) (has-get ns w (omega (arith, l)))
-  where
-    or_right : (a b : Bool) → b ≡ true → (a || b) ≡ true
-    or_right true b h = refl
-    or_right false b h = h
 
 pub has_apart : (ns : List ℕ) (x y : ℕ) → has nat_eq ns x ≡ false → has nat_eq ns y ≡ true → nat_eq x y ≡ false
 has_apart ns x y f t = go (nat_eq x y) refl
@@ -158,7 +140,7 @@ module _ (p : Pattern ℕ) where
   names_under g = firsts nat_eq [] (variables_all (put_all (column p.columns) g.arguments))
 
   names_in : (g : Goal ℕ) (v : ℕ) → IsIn v (names_under g) → IsIn v (variables_all p.columns)
-  names_in g v i = under_in p.columns g.arguments v (first_names (variables_all (put_all (column p.columns) g.arguments)) v i)
+  names_in g v i = under_in p.columns g.arguments v (firsts-from (variables_all (put_all (column p.columns) g.arguments)) v i)
 
   pub names-canon : (g : Goal ℕ) → face_variables (canon nat_eq p) g ≡ map to (names_under g)
   names-canon g =

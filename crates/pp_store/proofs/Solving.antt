@@ -4,7 +4,7 @@ use Rattle.std.specs.Prelude.{nat_eq}
 use Rattle.std.proofs.lemmas.List.{drop_all, drop_more, length_push}
 use Rattle.std.proofs.lemmas.List.Elements.{All-nil, All-cons, All-head, All-tail, All-push}
 use Rattle.pp_algebra.specs.Terms.{Tree, variable, Trees, none, more, put, put_all, variables, variables_all, count, join}
-use Rattle.pp_algebra.specs.Rows.{Domain, Domains, Row, domain_at, pattern_of, IsWide, IsRow, IsNumbered, IsCanonical}
+use Rattle.pp_algebra.specs.Rows.{Domain, Domains, Row, domain_at, pattern_of, IsWide, IsRow, IsCanonical}
 use Rattle.pp_algebra.specs.Covers.{IsIn, MayGo}
 use Rattle.pp_algebra.specs.Canon.{canon}
 use Rattle.pp_algebra.specs.Solve.{Item, equation, membership, Meets, IsSolved, HasNone}
@@ -22,7 +22,8 @@ use Rattle.pp_term.specs.declared.query.Item.{Item as QueryEntry}
 use Rattle.pp_term.specs.declared.query.Item.TheVariants as entries
 use Rattle.pp_term.specs.declared.query.Query.{Query}
 use Rattle.pp_term.specs.WellFormed.{AreBelow, IsItem, IsQuery}
-use Rattle.pp_store.specs.Queries.{item_of, query_by}
+use Rattle.pp_query.specs.Meanings.{item_of}
+use Rattle.pp_store.specs.Queries.{query_by}
 use Rattle.pp_algebra.proofs.Numbered.{count-from, from_numbered, column-from}
 
 -- ===== one after another

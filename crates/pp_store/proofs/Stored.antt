@@ -1,5 +1,5 @@
 -- What a store's pattern says of the store.
-use Rattle.std.proofs.Common.{◌≡◌, ℕ, ◌<◌, ◌≤◌, length, refl, ap, sym, ◌∙◌, subst, arith}
+use Rattle.std.proofs.Common.{◌≡◌, ℕ, ◌<◌, length, ap, sym, ◌∙◌, subst, arith}
 use Rattle.std.specs.Prelude.{nat_eq}
 use Rattle.pp_algebra.specs.Terms.{put_all, variables, variables_all, count}
 use Rattle.pp_algebra.specs.Rows.{Row, IsWide, domain_at}

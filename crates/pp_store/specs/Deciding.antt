@@ -1,12 +1,9 @@
 -- What becomes of items that are solved one after another, and the first cell of a term.
-use Rattle.std.specs.Prelude.{ℕ, Bool, true, false, List}
+use Rattle.std.specs.Prelude.{ℕ}
 use Rattle.pp_algebra.specs.Terms.{Tree, int, node, variable, count}
-use Rattle.pp_algebra.specs.Rows.{Row}
 use Rattle.pp_row.specs.declared.cell.Cell.{Cell}
 use Rattle.pp_row.specs.declared.cell.Cell.TheVariants.{Int, Var}
 use Rattle.pp_row.specs.Cells.{head_of}
-use Rattle.pp_algebra.specs.Solve.{Item}
-use Rattle.pp_unify.specs.Laws.{AreSolved, OneHasNone}
 
 abbrev pub top_of : Tree ℕ → Cell
 top_of (int n) = Int n

@@ -1,7 +1,6 @@
 -- The goals of a query as they are listed, and which of them name a variable.
-use Rattle.std.specs.Prelude.{◌≡◌, ℕ, ◌≤◌, ◌<◌, ◌^◌, true, nat_eq, List, map, length, All, Some}
+use Rattle.std.specs.Prelude.{◌≡◌, ℕ, ◌≤◌, ◌<◌, ◌^◌, List, map, length, All, Some}
 use Rattle.pp_algebra.specs.Covers.{IsIn}
-use Rattle.pp_algebra.specs.Canon.{has}
 use Rattle.pp_algebra.specs.Terms.{variables_all}
 use Rattle.pp_term.specs.declared.query.Query.{Query}
 use Rattle.pp_term.specs.WellFormed.{IsQuery}

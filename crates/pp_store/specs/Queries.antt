@@ -1,22 +1,15 @@
 -- What a query stands for in the definitions of runs, and its annotated goals by their numbers.
 use Rattle.std.specs.Prelude.{◌≡◌, ℕ, ◌≤◌, List, [], map, length, Some}
-use Rattle.pp_algebra.specs.Solve.{equation, membership}
 use Rattle.pp_sld.specs.Goals.{Goal}
 use Rattle.pp_language.specs.Programs as programs
 use Rattle.pp_propagation.specs.Stores.{Asked, goals_of}
 use Rattle.pp_propagation.specs.Turns.{goal_at}
 use Rattle.pp_row.specs.Columns.{trees_of}
-use Rattle.pp_term.specs.declared.query.Item.{Item}
-use Rattle.pp_term.specs.declared.query.Item.TheVariants as items
 use Rattle.pp_term.specs.declared.query.Query.{Query}
-use Rattle.pp_term.specs.Meanings.{members_by, shape_of, mode_of}
+use Rattle.pp_term.specs.Meanings.{shape_of, mode_of}
 use Rattle.pp_term.specs.WellFormed.{AreArguments}
+use Rattle.pp_query.specs.Meanings.{item_of}
 use Rattle.pp_store.specs.declared.goals.Annotated.{Annotated}
-
-abbrev pub item_of : Item → programs.QueryItem
-item_of (items.Equate a b) = programs.solves (equation a b)
-item_of (items.Member t d) = programs.solves (membership t (members_by d))
-item_of (items.Infer s ts m) = programs.infers (record { shape = shape_of s; arguments = trees_of ts }) (mode_of m)
 
 -- how it runs doesn't lie in its variables' names
 abbrev pub query_by : Query → programs.Query

@@ -10,7 +10,7 @@ ghost use Rattle.pp_term.specs.WellFormed.{IsItem};
 ghost use Rattle.pp_unify.specs.States.{present, in_place, IsOver, IsSolvedBy};
 ghost use Rattle.pp_unify.specs.Forests.{AreDecided};
 ghost use Rattle.pp_store.specs.Deciding.{top_of};
-ghost use Rattle.pp_store.specs.Queries.{item_of};
+ghost use Rattle.pp_query.specs.Meanings.{item_of};
 
 use pp_domain::Domain;
 use pp_term::{Cell, Item, Term};

@@ -1,5 +1,5 @@
 -- The row with one variable more, which is bound.
-use Rattle.std.proofs.Common.{◌≡◌, ℕ, suc, ◌+◌, ◌<◌, ◌≤◌, ◌^◌, List, [], ◌∷◌, ◌++◌, true, length, map, Option, Some, None, refl, ap, sym, ◌∙◌, subst, inl, inr, arith, append-nil, length-append}
+use Rattle.std.proofs.Common.{◌≡◌, ℕ, suc, ◌+◌, ◌<◌, ◌≤◌, ◌^◌, List, [], ◌∷◌, ◌++◌, true, length, map, None, refl, ap, sym, ◌∙◌, subst, inl, inr, arith, append-nil, length-append}
 use Rattle.std.specs.Prelude.{nat_eq}
 use Rattle.pp_algebra.specs.Solve.{equation}
 use Rattle.pp_heap.specs.Agreement.{Says, Agrees, Follows}
@@ -14,7 +14,6 @@ use Rattle.pp_algebra.proofs.Antisym.{put-agree, put_all-agree}
 use Rattle.pp_algebra.specs.Numbered.{variables_from}
 use Rattle.pp_row.proofs.Numbering.{firsts-append}
 use Rattle.pp_heap.specs.declared.state.Slot.TheVariants as slots
-use Rattle.pp_heap.specs.declared.state.Slot.{Slot}
 use Rattle.pp_heap.specs.declared.state.Value.{Value}
 use Rattle.pp_heap.specs.declared.state.Value.TheVariants.{Variable, Int, Atom, Compound}
 use Rattle.pp_heap.specs.declared.state.Entry.TheVariants.{Defined}

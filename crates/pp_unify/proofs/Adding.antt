@@ -4,7 +4,7 @@ use Rattle.std.specs.Prelude.{cond, nat_eq}
 use Rattle.std.proofs.lemmas.List.{map-append, get_or_append_left}
 use Rattle.std.proofs.Math.Seq.{get_or-append_seam}
 use Rattle.std.proofs.Math.ListN.{length-map}
-use Rattle.pp_algebra.specs.Terms.{Tree, variable, Trees, none, more, put_all, variables, variables_all, join}
+use Rattle.pp_algebra.specs.Terms.{Tree, variable, Trees, none, more, put_all, variables_all, join}
 use Rattle.pp_algebra.specs.Rows.{Domain, Domains}
 use Rattle.pp_algebra.specs.Covers.{IsIn}
 use Rattle.pp_algebra.specs.Canon.{has, place, firsts, canon}

@@ -1,5 +1,5 @@
 -- A head's cells are walked against terms of the heap.
-use Rattle.std.proofs.Common.{◌≡◌, ℕ, zero, suc, ◌+◌, ◌<◌, ◌≤◌, pos, List, [], ◌∷◌, ◌++◌, drop, take, get_or, inl, inr, ◌-◌, length, Bool, true, false, Option, Some, None, refl, ap, sym, ◌∙◌, subst, arith, All, append-nil, length-append}
+use Rattle.std.proofs.Common.{◌≡◌, ℕ, zero, suc, ◌+◌, ◌<◌, ◌≤◌, pos, List, [], ◌∷◌, ◌++◌, drop, take, get_or, inl, inr, ◌-◌, length, Bool, true, false, None, refl, ap, sym, ◌∙◌, subst, arith, All, append-nil, length-append}
 use Rattle.std.specs.Prelude.{◌↔◌}
 use Rattle.std.proofs.lemmas.List.{drop-append-le, get_or-drop, get_or-append-add}
 use Rattle.std.proofs.lemmas.List.Elements.{All-drop, All-take}
@@ -11,7 +11,6 @@ use Rattle.pp_row.specs.Reading.{all_of, forest, IsForest, from}
 use Rattle.pp_row.proofs.Next.{next, cell_of, forest_from}
 use Rattle.pp_algebra.proofs.Joined.{count-join, join-join}
 use Rattle.pp_algebra.specs.Terms.{Tree, int, node, variable, Trees, none, more, put, put_all, count, join}
-use Rattle.pp_algebra.specs.Rows.{Domains}
 use Rattle.pp_algebra.specs.Least.{rest, arguments}
 use Rattle.pp_algebra.specs.Solve.{equation}
 use Rattle.pp_algebra.proofs.Put.{put-put, count-put_all}
@@ -27,8 +26,7 @@ use Rattle.pp_algebra.specs.Terms.{variables}
 use Rattle.pp_unify.proofs.Among.{comes_from}
 use Rattle.pp_unify.proofs.Heaps.{variable_cell}
 use Rattle.pp_unify.proofs.Grown.{shifted_cells, counted_term}
-use Rattle.pp_heap.specs.Stores.{store_of}
-use Rattle.pp_heap.specs.Agreement.{Agrees, Excludes}
+use Rattle.pp_heap.specs.Agreement.{Excludes}
 use Rattle.pp_heap.specs.Soundness.{IsCompound, IsGood}
 use Rattle.pp_heap.specs.Outcomes.{AreMore, IsAnswer, IsVerdict}
 use Rattle.pp_heap.specs.Spans.{IsSpan, take_trees, span_terms, terms_of}
@@ -235,7 +233,7 @@ module _ (head : List Cell) (at end n : ℕ) (h : IsForest head) (l : at < lengt
     abbrev cut : List Cell
     cut = take (end - at) (drop at head)
 
-    cut_cells : cut ≡ cells_of (term_at head at)
+    pub cut_cells : cut ≡ cells_of (term_at head at)
     cut_cells = piece head at end (cells.Int (pos 0)) h l p.ends p.later p.within
 
     pub cut_shifted : shifted n cut ≡ cells_of (counted_from n (term_at head at))

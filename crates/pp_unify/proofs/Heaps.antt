@@ -24,7 +24,7 @@ is_var (Compound f k) w i = absurd i
 is_var (Var v) w (inl e) = ap Var e
 is_var (Var v) w (inr i) = absurd i
 
-cell_among : (cs : List Cell) (w : ℕ) → IsIn w (variables_among cs) → (q : ℕ) × (cell_at cs q ≡ Var w)
+pub cell_among : (cs : List Cell) (w : ℕ) → IsIn w (variables_among cs) → (q : ℕ) × (cell_at cs q ≡ Var w)
 cell_among [] w i = absurd i
 cell_among (c ∷ cs) w i = elim (IsIn-either w (variables_in c) (variables_among cs) i) [
   | inl j ↦ (zero, is_var c w j)

@@ -60,7 +60,7 @@ all_among s rs ts e h = λ k d l. over_among s rs (get_or ts k d) e (h k d l)
 abbrev pub domain_by_number : State → Domains ℕ
 domain_by_number s v = slot_domain s.domains.items (slot_at s.slots.items v)
 
-resolved_row : (s : State) (rs : List Row) (ts : List (Tree ℕ)) → states_of s ≡ rs → All (IsAmong s.slots.items) ts → canon nat_eq (record { columns = trees_of (map (put (solution s)) ts); domains = domain_by_number s }) ≡ row_in (present rs) ts
+pub resolved_row : (s : State) (rs : List Row) (ts : List (Tree ℕ)) → states_of s ≡ rs → All (IsAmong s.slots.items) ts → canon nat_eq (record { columns = trees_of (map (put (solution s)) ts); domains = domain_by_number s }) ≡ row_in (present rs) ts
 unfolding solution
 resolved_row s rs ts e a =
     let es = entries_of s in

@@ -27,9 +27,11 @@ pub mod Overs
 pub mod Widths
 pub mod HeadSteps
 pub mod Stepping
+pub mod Copied
 pub mod Walking
 pub mod FirstCells
 pub mod Unseen
 pub mod StillTops
 pub mod Emptied
 pub mod Listed
+pub mod Covering

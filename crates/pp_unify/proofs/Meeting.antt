@@ -18,7 +18,7 @@ use Rattle.pp_heap.specs.Values.{cell_at, term_at, value_term}
 use Rattle.pp_heap.specs.Stores.{store_of, solution}
 use Rattle.pp_heap.specs.Agreement.{Agrees, Excludes}
 use Rattle.pp_heap.specs.Soundness.{IsCompound, IsFixed, IsGood}
-use Rattle.pp_heap.specs.Outcomes.{IsAnswer}
+use Rattle.pp_heap.specs.Outcomes.{IsAnswer, IsVerdict}
 use Rattle.pp_unify.specs.Equating.{HasMet, met_by}
 use Rattle.pp_heap.proofs.Solutions.{own_domains, solution_agrees}
 use Rattle.pp_heap.proofs.Forests.{term_cell}
@@ -72,6 +72,10 @@ pub values_meet : (t : State) (c k : Value) (r : Bool) → IsGood t → IsFixed 
 values_meet t c k true g h i n e = nothing_solves t (value_term t.heap.items c) (value_term t.heap.items k) (ap (value_term t.heap.items) (e.0 refl))
 values_meet t c k false g h i n e = λ ds s w a q.
     let f : false ≡ true = e.1 (same_values t.heap.items c k g.linked.forest h i n (same_tops s t.heap.items c k g.linked.forest h i q)) in absurd (cc)
+
+pub values_verdict : (t : State) (c k : Value) (r : Bool) → IsGood t → IsFixed t.heap.items c → IsFixed t.heap.items k → ((p q : ℕ) → c ≡ Compound p → k ≡ Compound q → ⊥) → (IsTrue r ↔ (c ≡ k)) → IsVerdict t t (equation (value_term t.heap.items c) (value_term t.heap.items k)) r
+values_verdict t c k true g h i n e = (values_meet t c k true g h i n e).follows
+values_verdict t c k false g h i n e = values_meet t c k false g h i n e
 
 -- terms that are these values at the moment
 pub met_same : (a b : State) (t u t' u' : Tree ℕ) (m : Met) → IsGood a

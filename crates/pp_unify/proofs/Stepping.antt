@@ -1,6 +1,6 @@
 -- A term that becomes a term of the head: a variable that was met before or is new, an integer, an atom, or the copy of a compound.
-use Rattle.std.proofs.Common.{◌≡◌, ℕ, ◌+◌, ◌<◌, ◌≤◌, List, ◌∷◌, [], ◌++◌, length, Bool, true, false, refl, ap, sym, ◌∙◌, subst, arith, length-append}
-use Rattle.pp_algebra.specs.Terms.{Tree, variable, put}
+use Rattle.std.proofs.Common.{◌≡◌, ℕ, ◌+◌, ◌<◌, ◌≤◌, List, ◌∷◌, [], ◌++◌, length, All, Bool, true, false, refl, ap, sym, ◌∙◌, subst, arith, length-append}
+use Rattle.pp_algebra.specs.Terms.{Tree, variable, put, more}
 use Rattle.pp_algebra.specs.Solve.{equation}
 use Rattle.pp_algebra.specs.Numbered.{counted_from}
 use Rattle.pp_row.specs.declared.cell.Cell.{Cell}
@@ -12,13 +12,15 @@ use Rattle.pp_heap.specs.declared.state.Value.TheVariants.{Variable, Int, Atom, 
 use Rattle.pp_heap.specs.Values.{cell_at, slot_of, term_at, value_term}
 use Rattle.pp_heap.specs.Stores.{store_of}
 use Rattle.pp_heap.specs.Agreement.{Follows, Excludes}
-use Rattle.pp_heap.specs.Soundness.{IsCompound}
+use Rattle.pp_heap.specs.Soundness.{IsGood, IsCompound}
+use Rattle.pp_heap.specs.Spans.{IsSpan, terms_of}
+use Rattle.pp_heap.specs.declared.spans.Span.{Span}
 use Rattle.pp_heap.specs.Outcomes.{IsNow, IsUnbound, IsLater, IsGrown, IsAddedAs, IsVerdict}
 use Rattle.pp_heap.proofs.Forests.{variable_at}
-use Rattle.pp_unify.specs.Heads.{MeetsVariable, HasMetVariable, HasStepped}
+use Rattle.pp_unify.specs.Heads.{IsNext, MeetsVariable, HasMetVariable, HasStepped, IsTurned}
 use Rattle.pp_unify.specs.Joining.{AreBelow, IsRaised}
 use Rattle.pp_unify.proofs.Equations.{AgreeAlike, AreEqual, alike_itself, verdict_same}
-use Rattle.pp_unify.proofs.HeadSteps.{same_heap}
+use Rattle.pp_unify.proofs.HeadSteps.{same_heap, leaf_next, gone_turned}
 use Rattle.pp_unify.proofs.Widths.{wider_same}
 
 -- a variable that has a slot
@@ -94,3 +96,21 @@ module _ (a m g b : State) (k x p n : ℕ) (head : List Cell) (at : ℕ) (r : Is
     follows = verdict_same a g b (variable x) (counted_from n (term_at head at)) (variable x) (term_at g.heap.items p) true copy_alike (λ ds s h. refl) (λ ds s h. ap (put s) (sym same)) v;
   }
   copied_stepped false v = verdict_same a g b (variable x) (counted_from n (term_at head at)) (variable x) (term_at g.heap.items p) false copy_alike (λ ds s h. refl) (λ ds s h. ap (put s) (sym same)) v
+
+-- the head's next variable, which has no slot, is a value now
+pub next_turned : (i j b : State) (us : List Span) (c : Value) (m : ℕ) (head : List Cell) (to x : ℕ) → IsGood j → IsForest head → to < length head → All (IsSpan j.heap.items) us → IsNext i m head to x → MeetsVariable j b (value_term j.heap.items c) x → IsTurned j b (more (value_term j.heap.items c) (terms_of j.heap.items us)) us m head to (to + 1)
+next_turned i j b us c m head to x g f l a h k =
+    let t = value_term j.heap.items c in
+    let e = leaf_next head to f l (λ q. subst IsCompound h.cell q) in
+    gone_turned j b us t m head to (to + 1) g f l a e (omega arith) (variable_stepped j b t m head to h.variable true f l h.cell (subst (λ y. MeetsVariable j b t y) h.number k))
+
+-- as many variables as there are
+pub raised_itself : (a : State) (n : ℕ) → n ≤ length a.slots.items → IsRaised a a n
+raised_itself a n l = record {
+  more = omega arith;
+  reached = l;
+  bounded = λ m h k. h;
+  heap = refl;
+  slots = λ v. refl;
+  alike = λ ds s. ((λ h. h), λ h. h);
+}

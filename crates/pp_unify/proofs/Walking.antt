@@ -1,5 +1,5 @@
 -- Two lists of terms are walked in step: what is left of them is equal where both lists are.
-use Rattle.std.proofs.Common.{◌≡◌, ℕ, pos, suc, ◌+◌, ◌<◌, List, [], ◌∷◌, length, Option, Some, None, refl, ap, sym, ◌∙◌, subst, arith}
+use Rattle.std.proofs.Common.{◌≡◌, ℕ, pos, suc, ◌+◌, ◌<◌, ◌≤◌, List, [], ◌∷◌, length, None, refl, ap, sym, ◌∙◌, subst, arith}
 use Rattle.std.specs.Prelude.{◌↔◌}
 use Rattle.pp_algebra.specs.Terms.{Tree, Trees, none, more, variable, put, put_all, count, join}
 use Rattle.pp_algebra.specs.Rows.{Domains}
@@ -148,6 +148,13 @@ module _ (a i j : State) (ws us : List Span) (n : ℕ) (goal : List Cell) (at on
 -- the goal's next term is there, where no work is left
 pub goal_within : (i : State) (ws : List Span) (n : ℕ) (goal : List Cell) (at : ℕ) (head : List Cell) (to : ℕ) → ws ≡ [] → IsForest head → to < length head → count (left_of i ws n goal at) ≡ count (from head to) → at < length goal
 goal_within i ws n goal at head to e g h k = some_inside goal at (omega (arith, k, count_left i ws n goal at, ap count ((next head to (cells.Int (pos 0)) g h).some), ap (λ vs. count (terms_of i.heap.items vs)) e))
+
+pub some_within : (i : State) (ws : List Span) (n : ℕ) (goal : List Cell) (at : ℕ) → ws ≡ [] → 1 ≤ count (left_of i ws n goal at) → at < length goal
+some_within i ws n goal at e k = some_inside goal at (omega (arith, k, count_left i ws n goal at, ap (λ vs. count (terms_of i.heap.items vs)) e))
+
+-- something is left where the head has a term left
+pub some_left : (i : State) (ws : List Span) (n : ℕ) (goal : List Cell) (at : ℕ) (head : List Cell) (to : ℕ) → IsForest head → to < length head → count (left_of i ws n goal at) ≡ count (from head to) → 1 ≤ count (left_of i ws n goal at)
+some_left i ws n goal at head to g h k = omega (arith, k, ap count ((next head to (cells.Int (pos 0)) g h).some))
 
 -- nothing is left
 pub reached : (a i : State) (ws : List Span) (n : ℕ) (goal : List Cell) (at m : ℕ) (head : List Cell) (to : ℕ) → from head to ≡ none → count (left_of i ws n goal at) ≡ count (from head to) → Reaches a i ws n goal at m head to → JoinedBy a i n (forest goal) m (forest head)

@@ -9,11 +9,12 @@ use Rattle.pp_algebra.specs.Least.{rest}
 use Rattle.pp_algebra.specs.Solve.{equation}
 use Rattle.pp_heap.specs.declared.spans.Span.{Span}
 use Rattle.pp_heap.specs.declared.state.Slot.{Slot}
+use Rattle.pp_heap.specs.declared.state.Slot.TheVariants as slots
 use Rattle.pp_heap.specs.declared.state.State.{State}
-use Rattle.pp_heap.specs.Values.{cell_at, term_at}
+use Rattle.pp_heap.specs.Values.{cell_at, slot_at, slot_of, term_at}
 use Rattle.pp_heap.specs.Stores.{Store, store_of}
 use Rattle.pp_heap.specs.Soundness.{IsCompound}
-use Rattle.pp_heap.specs.Outcomes.{IsValue, AreMore}
+use Rattle.pp_heap.specs.Outcomes.{IsNow, IsValue, IsSlotFor, AreMore}
 use Rattle.pp_heap.specs.declared.state.Value.{Value}
 use Rattle.pp_heap.specs.Agreement.{Agrees, AllWide, Follows, Excludes}
 use Rattle.pp_heap.specs.Spans.{IsSpan, terms_of}
@@ -42,6 +43,34 @@ pub record IsPiece (head : List Cell) (at end : ℕ) : Type 0 where
 pub record IsLeaf (st : Store) (first : ℕ) (head : List Cell) (at : ℕ) (c : Value) : Type 0 where
   pub plain : IsCompound (cell_at head at) → ⊥
   pub value : IsValue st (counted_from first (term_at head at)) c
+
+-- the same, as the slot of a variable that is bound to it
+pub record IsLeafSlot (st : Store) (first : ℕ) (head : List Cell) (at : ℕ) (k : Slot) : Type 0 where
+  pub plain : IsCompound (cell_at head at) → ⊥
+  pub slot : IsSlotFor st (counted_from first (term_at head at)) k
+
+-- the slot of a variable that is bound to a value
+abbrev pub IsSlotNow : Store → Slot → Type 0
+IsSlotNow st k = (c : Value) × (k ≡ slot_of c) × IsNow st c
+
+-- the head's cell at this place is the next variable, x, which has no slot yet
+pub record IsNext (a : State) (first : ℕ) (head : List Cell) (at x : ℕ) : Type 0 where
+  pub next : x ≡ length a.slots.items
+  pub variable : ℕ
+  pub cell : cell_at head at ≡ cells.Var variable
+  pub number : x ≡ first + variable
+
+-- bound to an integer or an atom
+abbrev pub IsGround : Slot → Type 0
+IsGround (slots.Free d) = ⊥
+IsGround (slots.Alias w) = ⊥
+IsGround (slots.Int n) = Unit {0}
+IsGround (slots.Atom a) = Unit {0}
+IsGround (slots.Compound p) = ⊥
+
+-- each variable of the cells that has a slot, counted from a first one, is bound to an integer or an atom there
+abbrev pub AreGround : List Slot → ℕ → List Cell → Type 0
+AreGround ss first cs = (p v : ℕ) → cell_at cs p ≡ cells.Var v → first + v < length ss → IsGround (slot_at ss (first + v))
 
 -- a variable is a term now, and is there
 pub record MeetsVariable (old new : State) (t : Tree ℕ) (x : ℕ) : Type 0 where

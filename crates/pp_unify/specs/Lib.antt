@@ -10,3 +10,4 @@ pub mod Forests
 pub mod Joining
 pub mod Taking
 pub mod Still
+pub mod Covering

@@ -7,7 +7,8 @@ use Rattle.pp_algebra.specs.Rows.{Domains}
 use Rattle.pp_heap.specs.declared.spans.Span.{Span}
 use Rattle.pp_heap.specs.declared.state.State.{State}
 use Rattle.pp_heap.specs.declared.state.Value.{Value as Now}
-use Rattle.pp_heap.specs.Values.{value_term}
+use Rattle.pp_heap.specs.declared.state.Slot.{Slot}
+use Rattle.pp_heap.specs.Values.{slot_of, value_term}
 use Rattle.pp_heap.specs.Stores.{store_of}
 use Rattle.pp_heap.specs.Agreement.{Agrees, AllWide}
 use Rattle.pp_heap.specs.Outcomes.{IsNow}
@@ -37,3 +38,7 @@ abbrev pub HasTaken : Trees ℕ → State → List Span → ℕ → List Cell �
 HasTaken ts new now n goal head to Apart = (m : ℕ) (s : ℕ → Tree ℕ) → put_all s ts ≡ put_all (counted m s) (from head to) → ⊥
 HasTaken ts new now n goal head to (Alike on) = ArePassed new ts (left_of new now n goal on) head to
 HasTaken ts new now n goal head to (Value c on) = AreThis new ts (left_of new now n goal on) c
+
+-- the same, as the slot of a variable that is bound to it
+abbrev pub HasTakenSlot : Trees ℕ → State → List Span → ℕ → List Cell → Slot → ℕ → Type 0
+HasTakenSlot ts new now n goal k on = (c : Now) × (k ≡ slot_of c) × AreThis new ts (left_of new now n goal on) c

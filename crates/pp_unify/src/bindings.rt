@@ -1,9 +1,9 @@
 //! Bindings, as a caller sees them.
-ghost use Rattle.std.specs.Prelude.{◌≡◌, ℕ, suc, ◌<◌, ◌≤◌, true, false, [], ◌∷◌, length, take, IfOk, All, option_map};
+ghost use Rattle.std.specs.Prelude.{◌≡◌, ℕ, suc, ◌<◌, ◌≤◌, true, false, [], ◌∷◌, length, take, IfOk, IsTrue, All, option_map};
 ghost use Rattle.pp_algebra.specs.Rows.{IsWide, IsRow};
 ghost use Rattle.pp_algebra.specs.Solve.{equation, membership};
 ghost use Rattle.pp_algebra.specs.Terms.{int, count, variables_all};
-ghost use Rattle.pp_algebra.specs.Covers.{IsIn};
+ghost use Rattle.pp_algebra.specs.Covers.{IsIn, RowCovers};
 ghost use Rattle.pp_algebra.specs.Members.{IsInteger};
 ghost use Rattle.pp_row.specs.Reading.{IsForest, forest};
 ghost use Rattle.pp_heap.specs.Values.{term_at};
@@ -16,6 +16,7 @@ ghost use Rattle.pp_unify.specs.States.{no_columns, present, value_in, in_place,
 ghost use Rattle.pp_algebra.specs.Numbered.{counted_from};
 ghost use Rattle.pp_unify.specs.Still.{AreStill};
 
+use crate::cover::{Cover, is_covered};
 use crate::pair::Scratch;
 use crate::{join, still, terms, unify};
 use indexmap::IndexSet;
@@ -51,6 +52,7 @@ pub struct Bindings {
     state: State,
     work: Vec<Span>,
     scratch: Scratch,
+    cover: Cover,
 }
 
 impl Model for Bindings {
@@ -77,6 +79,7 @@ impl Bindings {
             state: State::new(alloc),
             work: Vec::new(alloc),
             scratch: Scratch::new(alloc),
+            cover: Cover::new(alloc),
         }
     }
 
@@ -375,6 +378,17 @@ impl Bindings {
         Ok(Row::from_numbered(numbered, terms::domains_of(&self.state, &numbers)?))
     }
 
+    /// Whether the row is known to cover that of these terms, with all bindings in place. What it answers false for may
+    /// be covered, too, where one of the terms is a compound. It costs a walk of the row up to the first difference,
+    /// and takes no memory once its stacks have grown.
+    pub fn is_covered(&mut self, columns: &[Term], by: &Row) -> Result<bool, AllocError>
+        requires over { All (IsOver (present self.old)) columns.now }
+        ensures covers { IfOk result (λ is. IsTrue is → RowCovers by.now (row_in (present self.old) columns.now)) }
+        ensures same { self.new ≡ self.old }
+    {
+        is_covered(&self.state, &mut self.cover, columns, by)
+    }
+
     /// A copy, with all its kept states.
     pub fn copy(&self) -> Result<Bindings, AllocError>
         ensures { IfOk result (λ b. b ≡ self.now) }
@@ -384,6 +398,7 @@ impl Bindings {
             state: self.state.copy()?,
             work: Vec::new(alloc),
             scratch: Scratch::new(alloc),
+            cover: Cover::new(alloc),
         })
     }
 }

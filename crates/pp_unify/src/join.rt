@@ -1,5 +1,5 @@
 //! Two lists of terms that are made equal, a goal's and a clause's head, walked in step where they stand.
-ghost use Rattle.std.specs.Prelude.{◌≡◌, ℕ, ◌+◌, ◌<◌, ◌^◌, ◌↔◌, [], List, length, vec_len, vec_capacity, IfOk, IsTrue, All};
+ghost use Rattle.std.specs.Prelude.{◌≡◌, ℕ, ◌+◌, ◌<◌, ◌≤◌, ◌^◌, ◌↔◌, [], List, length, vec_len, vec_capacity, IfOk, IsTrue, All};
 ghost use Rattle.pp_algebra.specs.Terms.{count, more, join};
 ghost use Rattle.pp_algebra.specs.Least.{rest};
 ghost use Rattle.pp_algebra.specs.Numbered.{counted_from};
@@ -13,13 +13,13 @@ ghost use Rattle.pp_heap.specs.Spans.{IsSpan, span_terms, terms_of};
 ghost use Rattle.pp_unify.specs.Forests.{counted_all};
 ghost use Rattle.pp_unify.specs.Heads.{IsHead, IsPiece, IsVariable};
 ghost use Rattle.pp_unify.specs.Joining.{IsOnward, AreBelow, AreJoined, IsEntered};
-ghost use Rattle.pp_unify.specs.Taking.{left_of, HasTaken};
+ghost use Rattle.pp_unify.specs.Taking.{left_of, HasTaken, HasTakenSlot};
 
-use crate::head::{add_up_to, is_alike, meet_head};
+use crate::head::{add_up_to, add_variable, is_alike, meet_head, next_variable};
 use crate::pair::Scratch;
-use crate::terms::leaf;
+use crate::terms::{leaf, leaf_slot};
 use crate::unify::is_same;
-use pp_heap::{Span, State, Value};
+use pp_heap::{Slot, Span, State, Value};
 use pp_row::{Cell, end_of};
 use std::alloc::AllocError;
 
@@ -171,6 +171,54 @@ fn take_next(
     }
 }
 
+/// Takes the goal's next term from where it stands, as the slot of a variable that is bound to it.
+fn take_goal_slot(
+    state: &mut State,
+    goal: &[Cell],
+    at: usize,
+    first: u32,
+) -> Result<(Slot, usize), AllocError>
+    requires good { IsGood state.old }
+    requires goal { IsHead state.old.slots.items first goal.now }
+    requires within { at < length goal.now }
+    ensures grown { IsGrown state.old state.new }
+    ensures taken { IfOk result (λ r. HasTakenSlot (counted_all first (from goal.now at)) state.new [] first goal.now r.0 r.1) }
+{
+    match leaf_slot(state, goal, at, first) {
+        Some(slot) => Ok((slot, next_cell(goal, at))),
+        None => {
+            let end = end_of(goal, at);
+            let value = goal_compound(state, goal, at, end, first)?;
+            Ok((value.slot(), end))
+        }
+    }
+}
+
+/// Takes the next term of what is left of a goal, as the slot of a variable that is bound to it.
+fn take_slot(
+    state: &mut State,
+    work: &mut Vec<Span>,
+    goal: &[Cell],
+    at: usize,
+    first: u32,
+) -> Result<(Slot, usize), AllocError>
+    requires good { IsGood state.old }
+    requires goal { IsHead state.old.slots.items first goal.now }
+    requires all { All (IsSpan state.old.heap.items) work.old.items }
+    requires some { 1 ≤ count (left_of state.old work.old.items first goal.now at) }
+    ensures grown { IsGrown state.old state.new }
+    ensures all { IfOk result (λ _. All (IsSpan state.new.heap.items) work.new.items) }
+    ensures taken { IfOk result (λ r. HasTakenSlot (left_of state.old work.old.items first goal.now at) state.new work.new.items first goal.now r.0 r.1) }
+{
+    match work.pop() {
+        Some(span) => {
+            state.put_rest(work, span);
+            Ok((state.slot_for_cell(span.at), at))
+        }
+        None => take_goal_slot(state, goal, at, first),
+    }
+}
+
 /// Makes the terms of a goal and those of a head equal, whose variables are counted from these numbers; false
 /// where nothing does. A variable of the head that has no slot gets one where it is met first. The work is a stack
 /// that is kept from call to call for its memory alone, as are those of the scratch.
@@ -195,6 +243,13 @@ pub(crate) fn unify_lists(
     let mut at: usize = 0;
     let mut next: usize = 0;
     while next < head.len() {
+        if let Some(number) = next_variable(state, head, next, base) {
+            let (slot, on) = take_slot(state, work, goal, at, first)?;
+            add_variable(state, number, slot)?;
+            at = on;
+            next += 1;
+            continue;
+        }
         match take_next(state, work, goal, at, first, head, next)? {
             Taken::Apart => return Ok(false),
             Taken::Alike(on) => {

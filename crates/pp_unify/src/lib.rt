@@ -2,6 +2,7 @@
 #![tactic(auto)]
 
 mod bindings;
+mod cover;
 mod head;
 mod join;
 mod laws;

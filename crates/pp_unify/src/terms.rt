@@ -13,7 +13,7 @@ ghost use Rattle.pp_heap.specs.Outcomes.{IsGrown, IsValue, IsNow, IsAddedAs, IsL
 ghost use Rattle.pp_algebra.specs.Numbered.{counted_from};
 ghost use Rattle.pp_unify.specs.States.{first_cell};
 ghost use Rattle.pp_unify.specs.Tops.{IsAmong, IsTop, cells_under};
-ghost use Rattle.pp_unify.specs.Heads.{IsHead, IsLeaf};
+ghost use Rattle.pp_unify.specs.Heads.{IsHead, IsLeaf, IsLeafSlot};
 
 use crate::pair::Scratch;
 use crate::unify::unify_values;
@@ -46,6 +46,21 @@ pub(crate) fn leaf(state: &State, cells: &[Cell], at: usize, first: u32) -> Opti
         Cell::Atom(name) => Some(Value::Atom(name)),
         Cell::Compound(_, _) => None,
         Cell::Var(variable) => Some(state.value_of(first + variable)),
+    }
+}
+
+/// The slot of a variable that is bound to a term that is no compound.
+pub(crate) fn leaf_slot(state: &State, cells: &[Cell], at: usize, first: u32) -> Option<Slot>
+    requires good { IsGood state.now }
+    requires head { IsHead state.now.slots.items first cells.now }
+    requires within { at < length cells.now }
+    ensures { MatchOption result (IsCompound (cell_at cells.now at)) (IsLeafSlot (store_of state.now) first cells.now at) }
+{
+    match cells[at] {
+        Cell::Int(value) => Some(Slot::Int(value)),
+        Cell::Atom(name) => Some(Slot::Atom(name)),
+        Cell::Compound(_, _) => None,
+        Cell::Var(variable) => Some(state.slot_for_variable(first + variable)),
     }
 }
 

@@ -37,7 +37,7 @@ pub(crate) fn is_same(one: Cell, other: Cell) -> bool
     one == other
 }
 
-fn is_same_value(one: Value, other: Value) -> bool
+pub(crate) fn is_same_value(one: Value, other: Value) -> bool
     ensures { IsTrue result ↔ (one ≡ other) }
 {
     one == other

@@ -7,7 +7,13 @@ use Rattle.pp_sld.specs.Trees.{AreSearches}
 use Rattle.pp_sld.specs.Trace.{Mark, tried, ends, trace_all, met, reductions, until}
 use Rattle.pp_sld.specs.Paths.{kids, skip}
 use Rattle.pp_sld.proofs.Trees.{tree, fails_at, choice_tree, none_at_end}
+use Rattle.pp_sld.proofs.LeafRows.{met-append}
+use Rattle.pp_algebra.specs.Rows.{Row}
+use Rattle.pp_sld.specs.Verdicts.{Mode}
+use Rattle.pp_sld.specs.Findings.{finding_of, settled}
+use Rattle.pp_sld.specs.Walks.{settled_by}
 use Rattle.pp_walk.specs.Moves.{HasChoice, IsDeadAt}
+use Rattle.pp_walk.specs.Walking.{IsThinned}
 use Rattle.pp_sld.proofs.Walks.{reductions-append}
 
 -- so many reductions
@@ -44,6 +50,46 @@ until-grows settled seen (ends l ∷ ms) = pick (settled (seen ++ ends l ∷ [])
     pick : (b : Bool) → reductions (seen ++ ends l ∷ []) ≤ reductions (until settled (seen ++ ends l ∷ []) ms) → reductions seen ≤ reductions (cond b (seen ++ ends l ∷ []) (until settled (seen ++ ends l ∷ []) ms))
     pick true h = omega (arith, reductions-append seen (ends l ∷ []))
     pick false h = omega (arith, h, reductions-append seen (ends l ∷ []))
+
+-- ===== reductions that are left out
+
+pub thinned_append : (ms ns xs : List Mark) → IsThinned ms ns → IsThinned (ms ++ xs) (ns ++ xs)
+thinned_append ms ns xs h = (met-append ms xs ∙ ap (λ x. x ++ met xs) h.0 ∙ sym (met-append ns xs), omega (arith, h.1, reductions-append ms xs, reductions-append ns xs))
+
+thinned_tries : (ms : List Mark) (n : ℕ) → IsThinned ms (ms ++ tries n)
+thinned_tries ms n = (sym (met-append ms (tries n) ∙ ap (λ x. met ms ++ x) (ap met (sym (append-nil (tries n))) ∙ met-tries n []) ∙ append-nil (met ms)), omega (arith, reductions-append ms (tries n)))
+
+module _ (m : Mode) (call : Row) where
+  -- of what was seen
+  until_thinned : (seen all ms : List Mark) → IsThinned seen all → IsThinned (until (settled_by m call) seen ms) (until (settled_by m call) all ms)
+  until_thinned seen all [] h = h
+  until_thinned seen all (tried ∷ ms) h = until_thinned (seen ++ tried ∷ []) (all ++ tried ∷ []) ms (thinned_append seen all (tried ∷ []) h)
+  until_thinned seen all (ends l ∷ ms) h =
+      let k = thinned_append seen all (ends l ∷ []) h in
+      subst (λ b. IsThinned (cond (settled_by m call (seen ++ ends l ∷ [])) (seen ++ ends l ∷ []) (until (settled_by m call) (seen ++ ends l ∷ []) ms)) (cond b (all ++ ends l ∷ []) (until (settled_by m call) (all ++ ends l ∷ []) ms)))
+      (ap (λ x. settled call (finding_of m x)) k.0)
+      (pick (settled_by m call (seen ++ ends l ∷ [])) k (until_thinned (seen ++ ends l ∷ []) (all ++ ends l ∷ []) ms k))
+    where
+      pick : (b : Bool) → IsThinned (seen ++ ends l ∷ []) (all ++ ends l ∷ []) → IsThinned (until (settled_by m call) (seen ++ ends l ∷ []) ms) (until (settled_by m call) (all ++ ends l ∷ []) ms) → IsThinned (cond b (seen ++ ends l ∷ []) (until (settled_by m call) (seen ++ ends l ∷ []) ms)) (cond b (all ++ ends l ∷ []) (until (settled_by m call) (all ++ ends l ∷ []) ms))
+      pick true k i = k
+      pick false k i = i
+
+  -- of what is to come
+  pub later_thinned : (seen ms : List Mark) (n : ℕ) (later : List Mark) → IsThinned (until (settled_by m call) seen (ms ++ later)) (until (settled_by m call) seen (ms ++ (tries n ++ later)))
+  later_thinned seen [] n later = subst (IsThinned (until (settled_by m call) seen later)) (sym (until-tries (settled_by m call) n seen later)) (until_thinned seen (seen ++ tries n) later (thinned_tries seen n))
+  later_thinned seen (tried ∷ ms) n later = later_thinned (seen ++ tried ∷ []) ms n later
+  later_thinned seen (ends l ∷ ms) n later = pick (settled_by m call (seen ++ ends l ∷ [])) (later_thinned (seen ++ ends l ∷ []) ms n later)
+    where
+      pick : (b : Bool) → IsThinned (until (settled_by m call) (seen ++ ends l ∷ []) (ms ++ later)) (until (settled_by m call) (seen ++ ends l ∷ []) (ms ++ (tries n ++ later)))
+          → IsThinned (cond b (seen ++ ends l ∷ []) (until (settled_by m call) (seen ++ ends l ∷ []) (ms ++ later))) (cond b (seen ++ ends l ∷ []) (until (settled_by m call) (seen ++ ends l ∷ []) (ms ++ (tries n ++ later))))
+      pick true i = (refl, omega arith)
+      pick false i = i
+
+pub thinned_is : (ms ns : List Mark) → ms ≡ ns → IsThinned ms ns
+thinned_is ms ns e = (ap met e, omega (arith, ap reductions e))
+
+pub thinned_twice : (ms ns os : List Mark) → IsThinned ms ns → IsThinned ns os → IsThinned ms os
+thinned_twice ms ns os h k = (h.0 ∙ k.0, omega (arith, h.1, k.1))
 
 -- alternatives that are passed over
 module _ (clauses : Program) (c : Config) (ws : List Way) (e : next clauses c ≡ choices ws) where

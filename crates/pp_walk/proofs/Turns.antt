@@ -9,7 +9,7 @@ use Rattle.pp_sld.specs.Goals.{Program, Config}
 use Rattle.pp_sld.specs.Ways.{Way, Next, finished, left_loose, fails, one, choices, next}
 use Rattle.pp_sld.specs.Trees.{Search, IsSearch}
 use Rattle.pp_sld.specs.Trace.{Leaf, answers_with, loose_with, Mark, tried, ends, trace, trace_all, met, leaves, reductions, until}
-use Rattle.pp_sld.specs.Leaves.{row_at}
+use Rattle.pp_sld.specs.Leaves.{leaf_row, row_at}
 use Rattle.pp_sld.specs.Verdicts.{Mode}
 use Rattle.pp_sld.specs.Findings.{Finding, finding_of, empty, join_finding, finding, settled}
 use Rattle.pp_sld.specs.Lattice.{IsUnder, LeavesUnder}
@@ -21,12 +21,12 @@ use Rattle.pp_sld.proofs.Trees.{tree, tree-IsSearch, tree_is, finished_tree, loo
 use Rattle.pp_sld.proofs.LeafRows.{met-append}
 use Rattle.pp_sld.proofs.Fitting.{leaves_join, under-left}
 use Rattle.pp_walk.specs.Places.{Place}
-use Rattle.pp_walk.specs.Moves.{Stepped, step_cost, IsDeadAt, Chose, IsNextPlace, WentBack}
+use Rattle.pp_walk.specs.Moves.{Stepped, step_cost, IsDeadAt, Chose, Committed, IsNextPlace, WentBack}
 use Rattle.pp_walk.specs.declared.event.Event.TheVariants.{Went, Choice, Failed, Answer, Loose}
 use Rattle.pp_walk.specs.declared.stage.Stage.{Stage}
 use Rattle.pp_walk.specs.declared.stage.Stage.TheVariants.{Enter, Try, Back}
-use Rattle.pp_walk.specs.Walking.{State, state, AreTaken, FitsHere, owed, remaining, IsReady, effort, stop, Walked, Goes, Ends, Costs, Turns}
-use Rattle.pp_walk.proofs.Marks.{tries, tries-last, length-tries, met-tries, reductions-tries, until-tries, until-grows, passed_over, none_left}
+use Rattle.pp_walk.specs.Walking.{State, state, AreTaken, FitsHere, owed, remaining, IsReady, effort, IsThinned, stop, Walked, Goes, Ends, Costs, Turns}
+use Rattle.pp_walk.proofs.Marks.{tries, tries-last, length-tries, met-tries, reductions-tries, until-tries, until-grows, later_thinned, thinned_is, thinned_twice, passed_over, none_left}
 use Rattle.pp_sld.proofs.Walks.{reductions-append}
 
 slice_some : (ws : List Way) (k : ℕ) → k < length ws → (w : Way) × (slice_get ws k ≡ Some w)
@@ -40,23 +40,39 @@ module _ (clauses : Program) (m : Mode) (call : Row) where
 
   -- ===== turns that meet reductions alone
 
-  pub quiet : (old new : State) (n : ℕ) → rest old ≡ tries n ++ rest new → new.finding ≡ old.finding → new.steps ≤ old.steps + n
+  -- of what is left then, some may be left out
+  sparing : (old new : State) (n : ℕ) (ms : List Mark) (k : ℕ) (later : List Mark) → rest old ≡ tries n ++ (ms ++ (tries k ++ later)) → rest new ≡ ms ++ later → new.finding ≡ old.finding → new.steps ≤ old.steps + n
       → AreTaken clauses new.place.above new.levels → FitsHere clauses new.stage new.place.here
       → 2 * length new.levels + effort new.stage < 4 * n + 2 * length old.levels + effort old.stage
       → IsReady clauses call old.stage old.place old.levels → Goes clauses m call old new
-  quiet old new n s f c t h d r = record {
-    ready = record { taken = t; here = h; under = subst (LeavesUnder call) (ap met s ∙ met-tries n (rest new)) r.under };
-    nearer = (let e : length (rest old) ≡ n + length (rest new) = ap length s ∙ length-append (tries n) (rest new) ∙ ap (λ x. x + length (rest new)) (length-tries n) in omega (arith, e, d));
+  sparing old new n ms k later s g f c t h d r = record {
+    ready = record {
+      taken = t;
+      here = h;
+      under = subst (LeavesUnder call) (ap met s ∙ met-tries n (ms ++ (tries k ++ later)) ∙ met-append ms (tries k ++ later) ∙ ap (λ x. met ms ++ x) (met-tries k later) ∙ sym (met-append ms later) ∙ ap met (sym g)) r.under;
+    };
+    nearer = (let e : length (rest old) ≡ n + (length ms + (k + length later)) = ap length s ∙ length-append (tries n) (ms ++ (tries k ++ later)) ∙ ap (λ x. x + length (ms ++ (tries k ++ later))) (length-tries n) ∙ ap (λ x. n + x) (length-append ms (tries k ++ later) ∙ ap (λ x. length ms + x) (length-append (tries k) later ∙ ap (λ x. x + length later) (length-tries k))) in
+        let z : length (rest new) ≡ length ms + length later = ap length g ∙ length-append ms later in omega (arith, e, z, d));
     walked = λ root from w.
         let e : met (w.seen ++ tries n) ≡ met w.seen = met-append w.seen (tries n) ∙ ap (λ x. met w.seen ++ x) (ap met (sym (append-nil (tries n))) ∙ met-tries n []) ∙ append-nil (met w.seen) in
+        let before : until (settled_by m call) w.seen (rest old) ≡ until (settled_by m call) (w.seen ++ tries n) (ms ++ (tries k ++ later)) = ap (until (settled_by m call) w.seen) s ∙ until-tries (settled_by m call) n w.seen (ms ++ (tries k ++ later)) in
         record {
           seen = w.seen ++ tries n;
           under = subst (LeavesUnder call) (sym e) w.under;
-          passes = sym (until-tries (settled_by m call) n w.seen (rest new)) ∙ ap (until (settled_by m call) w.seen) (sym s) ∙ w.passes;
+          passes = subst (λ x. IsThinned (until (settled_by m call) (w.seen ++ tries n) x) (stop clauses m call root)) (sym g)
+              (thinned_twice (until (settled_by m call) (w.seen ++ tries n) (ms ++ later)) (until (settled_by m call) (w.seen ++ tries n) (ms ++ (tries k ++ later))) (stop clauses m call root)
+              (later_thinned m call (w.seen ++ tries n) ms k later)
+              (subst (λ x. IsThinned x (stop clauses m call root)) before w.passes));
           finding = f ∙ w.finding ∙ ap (finding_of m) (sym e);
           steps = omega (arith, c, w.steps, reductions-append w.seen (tries n), reductions-tries n);
         };
   }
+
+  pub quiet : (old new : State) (n : ℕ) → rest old ≡ tries n ++ rest new → new.finding ≡ old.finding → new.steps ≤ old.steps + n
+      → AreTaken clauses new.place.above new.levels → FitsHere clauses new.stage new.place.here
+      → 2 * length new.levels + effort new.stage < 4 * n + 2 * length old.levels + effort old.stage
+      → IsReady clauses call old.stage old.place old.levels → Goes clauses m call old new
+  quiet old new n s = sparing old new n [] 0 (rest new) s refl
 
   -- ===== a leaf
 
@@ -76,10 +92,10 @@ module _ (clauses : Program) (m : Mode) (call : Row) where
         )
 
     -- what the walk makes of the leaf
-    at_leaf : (b : Bool) → settled call f ≡ b → (root : Config) (from : ℕ) (w : Walked clauses m call root from old) → cond b (w.seen ++ ends l ∷ []) (until (settled_by m call) (w.seen ++ ends l ∷ []) later) ≡ stop clauses m call root
+    at_leaf : (b : Bool) → settled call f ≡ b → (root : Config) (from : ℕ) (w : Walked clauses m call root from old) → IsThinned (cond b (w.seen ++ ends l ∷ []) (until (settled_by m call) (w.seen ++ ends l ∷ []) later)) (stop clauses m call root)
     at_leaf b k root from w =
         let p : settled_by m call (w.seen ++ ends l ∷ []) ≡ b = ap (settled call) (sym (gathers root from w).1) ∙ k in
-        ap (λ x. cond x (w.seen ++ ends l ∷ []) (until (settled_by m call) (w.seen ++ ends l ∷ []) later)) (sym p) ∙ ap (until (settled_by m call) w.seen) (sym s) ∙ w.passes
+        subst (λ x. IsThinned x (stop clauses m call root)) (ap (until (settled_by m call) w.seen) s ∙ ap (λ x. cond x (w.seen ++ ends l ∷ []) (until (settled_by m call) (w.seen ++ ends l ∷ []) later)) p) w.passes
 
     counts : (root : Config) (from n : ℕ) (w : Walked clauses m call root from old) → n ≤ old.steps → n ≤ from + reductions (w.seen ++ ends l ∷ [])
     counts root from n w c = omega (arith, c, w.steps, reductions-append w.seen (ends l ∷ []))
@@ -87,7 +103,8 @@ module _ (clauses : Program) (m : Mode) (call : Row) where
     pub leaf_ends : (n : ℕ) → settled call f ≡ true → n ≤ old.steps → Ends clauses m call old f n
     leaf_ends n k c root from w =
         let p = at_leaf true k root from w in
-        ((gathers root from w).1 ∙ ap (λ x. finding_of m (met x)) p, subst (λ x. n ≤ from + reductions x) p (counts root from n w c))
+        let u = counts root from n w c in
+        ((gathers root from w).1 ∙ ap (finding_of m) p.0, omega (arith, p.1, u))
 
     pub leaf_goes : (n : ℕ) → settled call f ≡ false → n ≤ old.steps → later ≡ owed clauses old.place.above old.levels → old.stage ≡ Enter → Goes clauses m call old (state Back old.place old.levels f n)
     leaf_goes n k c o g = record {
@@ -96,7 +113,7 @@ module _ (clauses : Program) (m : Mode) (call : Row) where
       walked = λ root from w. record {
         seen = w.seen ++ ends l ∷ [];
         under = (gathers root from w).0;
-        passes = ap (until (settled_by m call) (w.seen ++ ends l ∷ [])) (sym o) ∙ at_leaf false k root from w;
+        passes = subst (λ x. IsThinned (until (settled_by m call) (w.seen ++ ends l ∷ []) x) (stop clauses m call root)) o (at_leaf false k root from w);
         finding = (gathers root from w).1;
         steps = counts root from n w c;
       };
@@ -106,16 +123,16 @@ module _ (clauses : Program) (m : Mode) (call : Row) where
 
   pub all_done : (old : State) (f : Finding) (n : ℕ) → rest old ≡ [] → f ≡ old.finding → n ≤ old.steps → Ends clauses m call old f n
   all_done old f n s e c root from w =
-      let p : w.seen ≡ stop clauses m call root = ap (until (settled_by m call) w.seen) (sym s) ∙ w.passes in
-      (e ∙ w.finding ∙ ap (λ x. finding_of m (met x)) p, subst (λ x. n ≤ from + reductions x) p (omega (arith, c, w.steps)))
+      let p : IsThinned w.seen (stop clauses m call root) = subst (λ x. IsThinned (until (settled_by m call) w.seen x) (stop clauses m call root)) s w.passes in
+      (e ∙ w.finding ∙ ap (finding_of m) p.0, omega (arith, c, w.steps, p.1))
 
   pub costs : (old : State) (n : ℕ) → n ≤ old.steps → Costs clauses m call old n
-  costs old n c root from w = omega (arith, c, w.steps, subst (λ x. reductions w.seen ≤ reductions x) w.passes (until-grows (settled_by m call) w.seen (rest old)))
+  costs old n c root from w = omega (arith, c, w.steps, until-grows (settled_by m call) w.seen (rest old), w.passes.1)
 
   pub costs_one : (old : State) (later : List Mark) (n : ℕ) → rest old ≡ tried ∷ later → n ≤ old.steps + 1 → Costs clauses m call old n
   costs_one old later n s c root from w =
-      let p : until (settled_by m call) (w.seen ++ tried ∷ []) later ≡ stop clauses m call root = ap (until (settled_by m call) w.seen) (sym s) ∙ w.passes in
-      omega (arith, c, w.steps, subst (λ x. reductions (w.seen ++ tried ∷ []) ≤ reductions x) p (until-grows (settled_by m call) (w.seen ++ tried ∷ []) later), reductions-append w.seen (tried ∷ []))
+      let p : IsThinned (until (settled_by m call) (w.seen ++ tried ∷ []) later) (stop clauses m call root) = subst (λ x. IsThinned (until (settled_by m call) w.seen x) (stop clauses m call root)) s w.passes in
+      omega (arith, c, w.steps, until-grows (settled_by m call) (w.seen ++ tried ∷ []) later, p.1, reductions-append w.seen (tried ∷ []))
 
   -- ===== one step at a configuration
 
@@ -147,11 +164,11 @@ module _ (clauses : Program) (m : Mode) (call : Row) where
         ])
 
     -- an answer or a loose end
-    pub answer_left : (a : Row) → Stepped clauses p (Answer a) q → rest entered ≡ ends (answers_with p.here) ∷ owed clauses p.above ks
-    answer_left a h = ap (λ x. x ++ owed clauses p.above ks) (finished_tree clauses p.here h.0)
+    pub answer_left : Stepped clauses p Answer q → rest entered ≡ ends (answers_with p.here) ∷ owed clauses p.above ks
+    answer_left h = ap (λ x. x ++ owed clauses p.above ks) (finished_tree clauses p.here h.0)
 
-    pub loose_left_here : (a : Row) → Stepped clauses p (Loose a) q → rest entered ≡ ends (loose_with p.here) ∷ owed clauses p.above ks
-    loose_left_here a h = ap (λ x. x ++ owed clauses p.above ks) (loose_tree clauses p.here h.0)
+    pub loose_left_here : Stepped clauses p Loose q → rest entered ≡ ends (loose_with p.here) ∷ owed clauses p.above ks
+    loose_left_here h = ap (λ x. x ++ owed clauses p.above ks) (loose_tree clauses p.here h.0)
 
   -- what comes after a leaf
   abbrev pub AfterLeaf : Finding → Option Stage → Type 0
@@ -164,19 +181,19 @@ module _ (clauses : Program) (m : Mode) (call : Row) where
       (subst (λ x. Goes clauses m call (state Enter p ks f s) (state Back x ks f' s')) (sym e)
       (leaf_goes (state Enter p ks f s) l (owed clauses p.above ks) f' t r j s' k.0 c refl refl))
 
-  module _ (o : Option Stage) (p q : Place) (ks : List ℕ) (f f' : Finding) (s s' : ℕ) (a : Row) (c : s' ≡ s + step_cost (next clauses p.here)) (r : IsReady clauses call Enter p ks) where
-    pub met_answer : Stepped clauses p (Answer a) q → f' ≡ join_finding f (finding m (a ∷ []) []) → AfterLeaf f' o → Turns clauses m call (state Enter p ks f s) o q ks f' s'
-    met_answer h j k = after_leaf o p q ks f f' s s' (answers_with p.here) h.2 (omega (arith, c, ap step_cost h.0)) (answer_left p q ks f s s' c r a h) r (j ∙ ap (λ x. join_finding f (finding m (x ∷ []) [])) h.1) k
+  module _ (o : Option Stage) (p q q' : Place) (ks : List ℕ) (f f' : Finding) (s s' : ℕ) (z : q' ≡ q) (c : s' ≡ s + step_cost (next clauses p.here)) (r : IsReady clauses call Enter p ks) where
+    pub met_answer : Stepped clauses p Answer q → f' ≡ join_finding f (finding m (leaf_row q.here ∷ []) []) → AfterLeaf f' o → Turns clauses m call (state Enter p ks f s) o q' ks f' s'
+    met_answer h j k = after_leaf o p q' ks f f' s s' (answers_with p.here) (z ∙ h.1) (omega (arith, c, ap step_cost h.0)) (answer_left p q ks f s s' c r h) r (j ∙ ap (λ (x : Place). join_finding f (finding m (leaf_row x.here ∷ []) [])) h.1) k
 
-    pub met_loose : Stepped clauses p (Loose a) q → f' ≡ join_finding f (finding m [] (a ∷ [])) → AfterLeaf f' o → Turns clauses m call (state Enter p ks f s) o q ks f' s'
-    met_loose h j k = after_leaf o p q ks f f' s s' (loose_with p.here) h.2 (omega (arith, c, ap step_cost h.0)) (loose_left_here p q ks f s s' c r a h) r (j ∙ ap (λ x. join_finding f (finding m [] (x ∷ []))) h.1) k
+    pub met_loose : Stepped clauses p Loose q → f' ≡ join_finding f (finding m [] (leaf_row q.here ∷ [])) → AfterLeaf f' o → Turns clauses m call (state Enter p ks f s) o q' ks f' s'
+    met_loose h j k = after_leaf o p q' ks f f' s s' (loose_with p.here) (z ∙ h.1) (omega (arith, c, ap step_cost h.0)) (loose_left_here p q ks f s s' c r h) r (j ∙ ap (λ (x : Place). join_finding f (finding m [] (leaf_row x.here ∷ []))) h.1) k
 
   -- a row of a leaf lies under the call
-  pub answer_under : (p q : Place) (a : Row) → Stepped clauses p (Answer a) q → LeavesUnder call (leaves (tree clauses p.here)) → IsUnder call a
-  answer_under p q a h u = subst (IsUnder call) (sym h.1) (subst (λ x. LeavesUnder call (met x)) (finished_tree clauses p.here h.0) u (answers_with p.here) (inl refl))
+  pub answer_under : (p q : Place) → Stepped clauses p Answer q → LeavesUnder call (leaves (tree clauses p.here)) → IsUnder call (leaf_row q.here)
+  answer_under p q h u = subst (λ (x : Place). IsUnder call (leaf_row x.here)) (sym h.1) (subst (λ x. LeavesUnder call (met x)) (finished_tree clauses p.here h.0) u (answers_with p.here) (inl refl))
 
-  pub loose_under : (p q : Place) (a : Row) → Stepped clauses p (Loose a) q → LeavesUnder call (leaves (tree clauses p.here)) → IsUnder call a
-  loose_under p q a h u = subst (IsUnder call) (sym h.1) (subst (λ x. LeavesUnder call (met x)) (loose_tree clauses p.here h.0) u (loose_with p.here) (inl refl))
+  pub loose_under : (p q : Place) → Stepped clauses p Loose q → LeavesUnder call (leaves (tree clauses p.here)) → IsUnder call (leaf_row q.here)
+  loose_under p q h u = subst (λ (x : Place). IsUnder call (leaf_row x.here)) (sym h.1) (subst (λ x. LeavesUnder call (met x)) (loose_tree clauses p.here h.0) u (loose_with p.here) (inl refl))
 
   -- a step that found no memory
   pub step_costs : (p : Place) (ks : List ℕ) (f : Finding) (s s' : ℕ) (x : Next) → next clauses p.here ≡ x → s' ≤ s + step_cost x → Costs clauses m call (state Enter p ks f s) s'
@@ -233,6 +250,29 @@ module _ (clauses : Program) (m : Mode) (call : Row) where
             subst (λ x. Goes clauses m call trying (state (Try next_at) x ks f s')) (sym g.1)
             (quiet trying (state (Try next_at) p ks f s') (suc (at - from)) (tries_here left_at (fails_left g.0) g.0.0 g.0.1) refl (omega (arith, c)) r.taken r.here (omega arith) r)
 
+        -- the same where no later one leads on, without a choice
+        module _ (last : IsNextPlace clauses p.here next_at None) where
+          none_behind : (ws : List Way) → next clauses p.here ≡ choices ws → left_at ≡ tries (length ws - next_at)
+          none_behind ws g = none_left clauses p.here ws g next_at last
+
+          pub committed_goes : (q : Place) (s' : ℕ) → Committed clauses p at true q → s' ≤ s + 1 → IsReady clauses call (Try from) p ks → Goes clauses m call trying (state Enter q ks f s')
+          committed_goes q s' g c r =
+              let ws = g.0.0 in
+              let ms = trace (tree clauses q.here) in
+              sparing trying (state Enter q ks f s') (suc (at - from)) ms (length ws - next_at) (owed clauses p.above ks)
+              (tries_here (ms ++ left_at) (goes_left q.here g.0) ws g.0.1
+              ∙ ap (λ x. tries (suc (at - from)) ++ x) (append_assoc ms left_at (owed clauses p.above ks) ∙ ap (λ x. ms ++ (x ++ owed clauses p.above ks)) (none_behind ws g.0.1)))
+              (ap (λ x. ms ++ owed clauses x ks) g.1)
+              refl (omega (arith, c)) (subst (λ x. AreTaken clauses x ks) (sym g.1) r.taken) tt (omega arith) r
+
+          pub committed_fails : (q : Place) (s' : ℕ) → Committed clauses p at false q → s' ≤ s + 1 → IsReady clauses call (Try from) p ks → Goes clauses m call trying (state Back q ks f s')
+          committed_fails q s' g c r =
+              let ws = g.0.0 in
+              subst (λ x. Goes clauses m call trying (state Back x ks f s')) (sym g.1)
+              (sparing trying (state Back p ks f s') (suc (at - from)) [] (length ws - next_at) (owed clauses p.above ks)
+              (tries_here left_at (fails_left g.0) ws g.0.1 ∙ ap (λ x. tries (suc (at - from)) ++ (x ++ owed clauses p.above ks)) (none_behind ws g.0.1))
+              refl refl (omega (arith, c)) r.taken tt (omega arith) r)
+
       -- a try that found no memory, and one after which there was none
       pub try_costs : (s' : ℕ) → s' ≤ s + 1 → Costs clauses m call trying s'
       try_costs s' c =
@@ -283,7 +323,7 @@ module _ (clauses : Program) (m : Mode) (call : Row) where
     starts_walked f s e = record {
       seen = [];
       under = λ x i. absurd i;
-      passes = ap (until (settled_by m call) []) all_left;
+      passes = thinned_is (until (settled_by m call) [] (remaining clauses Enter p [])) (stop clauses m call p.here) (ap (until (settled_by m call) []) all_left);
       finding = e;
       steps = omega arith;
     }

@@ -70,6 +70,10 @@ effort Back = 0
 abbrev pub distance : Program → Stage → Place → List ℕ → ℕ
 distance clauses s p ks = 4 * length (remaining clauses s p ks) + 2 * length ks + effort s
 
+-- the same leaves, and no more reductions
+abbrev pub IsThinned : List Mark → List Mark → Type 0
+IsThinned ms ns = (met ms ≡ met ns) × (reductions ms ≤ reductions ns)
+
 module _ (clauses : Program) (m : Mode) (call : Row) where
   -- what a walk from this root meets before it stops
   abbrev pub stop : Config → List Mark
@@ -79,7 +83,7 @@ module _ (clauses : Program) (m : Mode) (call : Row) where
   pub record Walked (root : Config) (from : ℕ) (w : State) : Type 0 where
     pub seen : List Mark
     pub under : LeavesUnder call (met seen)
-    pub passes : until (settled_by m call) seen (remaining clauses w.stage w.place w.levels) ≡ stop root
+    pub passes : IsThinned (until (settled_by m call) seen (remaining clauses w.stage w.place w.levels)) (stop root)
     pub finding : w.finding ≡ finding_of m (met seen)
     pub steps : w.steps ≤ from + reductions seen
 

@@ -1,9 +1,7 @@
 //! What a step comes to.
 
-use pp_row::Row;
-
 /// What a step of a search machine comes to. The last three end the branch.
-#[derive(Drop)]
+#[derive(Clone, Copy, Debug, PartialEq, Eq)]
 pub enum Event {
     /// A built-in was performed.
     Went,
@@ -11,8 +9,8 @@ pub enum Event {
     Choice(u64),
     /// The selected goal has no alternative, or a built-in didn't hold.
     Failed,
-    /// An answer with this row.
-    Answer(Row),
-    /// A loose end with this row: its depth is spent, or all its goals wait.
-    Loose(Row),
+    /// An answer.
+    Answer,
+    /// A loose end: its depth is spent, or all its goals wait.
+    Loose,
 }

@@ -11,8 +11,9 @@ ghost use Rattle.pp_walk.specs.Walking.{state, IsReady, AreTaken, FitsHere, Turn
 ghost use Rattle.pp_walk.specs.Found.{IsWalkFinding, IsWithinWalk};
 ghost use Rattle.pp_walk.specs.declared.stage.Stage.TheVariants.{Enter, Try, Back};
 
+use crate::leaf::{gather_answer, gather_loose};
 use crate::stage::Stage;
-use crate::{Event, Gatherer, SearchMachine, Steps};
+use crate::{Event, Gatherer, Next, SearchMachine, Steps};
 use std::alloc::{AllocError, Global};
 use std::sync::ledger::Ledger;
 
@@ -52,18 +53,19 @@ fn enter<M: SearchMachine, G: Gatherer, L: Ledger>(
         Event::Went => Ok(Some(Stage::Enter)),
         Event::Choice(count) => Ok(Some(first_of(count))),
         Event::Failed => Ok(Some(Stage::Back)),
-        Event::Answer(row) => {
-            gathered.add_answer(row)?;
+        Event::Answer => {
+            gather_answer(machine, gathered)?;
             Ok(after_leaf(gathered))
         }
-        Event::Loose(row) => {
-            gathered.add_loose(row)?;
+        Event::Loose => {
+            gather_loose(machine, gathered)?;
             Ok(after_leaf(gathered))
         }
     }
 }
 
-/// Takes the next alternative here that leads on, if the next one that may lead on does.
+/// Takes the next alternative here that leads on, if the next one that may lead on does. No choice is kept for one
+/// that is known to be the last.
 fn attempt<M: SearchMachine, L: Ledger>(
     machine: &mut M,
     from: u64,
@@ -75,8 +77,13 @@ fn attempt<M: SearchMachine, L: Ledger>(
     ensures goes { IfOk result (λ s. (m : Mode) (call : Row) (f : Finding) → IsReady (M.clauses machine.old) call (Try from) (M.place machine.old) (reverse levels.old.items) → Goes (M.clauses machine.old) m call (state (Try from) (M.place machine.old) (reverse levels.old.items) f steps.old) (state s (M.place machine.new) (reverse levels.new.items) f steps.new)) }
     ensures costs { OnErr result ((m : Mode) (call : Row) (f : Finding) → Costs (M.clauses machine.old) m call (state (Try from) (M.place machine.old) (reverse levels.old.items) f steps.old) steps.new) }
 {
-    let Some(at) = machine.place_from(from) else {
-        return Ok(Stage::Back);
+    let at = match machine.next_from(from) {
+        Next::Nothing => return Ok(Stage::Back),
+        Next::Last(at) => {
+            let goes = machine.commit(at, steps)?;
+            return Ok(if goes { Stage::Enter } else { Stage::Back });
+        }
+        Next::At(at) => at,
     };
     if !machine.choose(at, steps)? {
         return Ok(Stage::Try(at + 1));

@@ -1,6 +1,6 @@
 -- A walk over watchers, each of which notes a change.
-use Rattle.std.proofs.Common.{◌≡◌, ℕ, zero, suc, ◌+◌, ◌-◌, ◌<◌, ◌≤◌, Bool, true, false, List, [], ◌∷◌, ◌++◌, length, take, drop, set, get_or, map, filter, Option, Some, None, All, append-nil, append_assoc, refl, ap, sym, ◌∙◌, subst, arith, add-one}
-use Rattle.std.specs.Prelude.{◌≢◌, cond, nat_lt, remove, Result, Ok, Err, OnErr}
+use Rattle.std.proofs.Common.{◌≡◌, ℕ, zero, suc, ◌+◌, ◌-◌, ◌<◌, ◌≤◌, Bool, true, false, List, [], ◌∷◌, ◌++◌, length, take, drop, set, get_or, map, Option, Some, None, All, append-nil, append_assoc, refl, ap, sym, ◌∙◌, subst, arith}
+use Rattle.std.specs.Prelude.{◌≢◌, cond, remove, Result, Ok, Err, OnErr}
 use Rattle.std.proofs.Math.Seq.{map-set_same, drop-cons, drop-append_seam, take-append_seam}
 use Rattle.std.proofs.lemmas.Bool.{lt-ltb, le-ltb}
 use Rattle.std.proofs.lemmas.List.{get_or-map, take_more_set, take-set, drop-set-lt, drop_all, take_all, length-set, length-take-le, length-append, length-map, take-append-drop, map-append, map-set, take-map, drop-map}
@@ -130,11 +130,9 @@ module _ {W : Type 0} (seen : W → Watcher) (c : Change) where
           (sym (ap (map seen) is_new ∙ map-append seen (take at (set ws at y)) (drop (suc at) (set ws at y)) ∙ ap (λ vs. vs ++ map seen (drop (suc at) (set ws at y))) (sym (take-map seen at (set ws at y))) ∙ ap (λ vs. take at (map seen (set ws at y)) ++ vs) (sym (drop-map seen (suc at) (set ws at y))) ∙ ap (λ vs. remove vs at) (map-set seen ws at y)))
           (leaves c at (map seen ws) old (seen d) (seen y) inside n (noted_here e) k)
 
-      pub seen_part : seen y ≡ seen w → (new : List W) → new ≡ set ws at y → NotedInPart (c ∷ []) [] old (map seen new)
-      seen_part e new is_new =
+      -- and where want of memory is answered
+      pub seen_part : {T E : Type 0} (r : Result T E) → seen y ≡ seen w → (new : List W) → new ≡ set ws at y → OnErr r (NotedInPart (c ∷ []) [] old (map seen new))
+      seen_part (Ok x) e new is_new = tt
+      seen_part (Err x) e new is_new =
           let back : map seen new ≡ map seen ws = ap (map seen) is_new ∙ map-set_same seen ws at y d (e ∙ ap seen is) in
           subst (NotedInPart (c ∷ []) [] old) (sym back) (part_noted c at (map seen ws) old n)
-
-pub on_err : {A E : Type 0} (r : Result A E) (P : Type 0) → P → OnErr r P
-on_err (Ok x) P p = tt
-on_err (Err e) P p = p

@@ -1,5 +1,5 @@
 -- A command that words ask for is within its limits.
-use Rattle.std.proofs.Common.{◌≡◌, ℕ, ◌≤◌, Bool, true, false, ◌&&◌, cond, List, [], ◌∷◌, refl, ap, sym, ◌∙◌, subst, arith}
+use Rattle.std.proofs.Common.{◌≡◌, ℕ, ◌≤◌, true, false, List, [], ◌∷◌, refl, ap, sym, ◌∙◌, subst, arith}
 use Rattle.std.specs.List.{list_all}
 use Rattle.std.proofs.lemmas.Bool.{and_parts}
 use Rattle.pp_language.specs.declared.limits.TheConstants.{WORKER_LIMIT, MAKE_LIMIT}
@@ -7,7 +7,7 @@ use Rattle.pp_language.specs.declared.command.CommandKind.{CommandKind}
 use Rattle.pp_language.specs.declared.command.CommandKind.TheVariants.{Make}
 use Rattle.pp_language.specs.declared.command.Command.{Command}
 use Rattle.pp_language.specs.Texts.{Text, is_between}
-use Rattle.pp_language.specs.Commands.{Setting, worker_count, look_ahead, search_depth, turn_count, same_setting, greatest_value, default_value, has_setting, Entry, sets, traces, counts, values, numbers, numbers_of, is_allowed, given, AreWordsOf}
+use Rattle.pp_language.specs.Commands.{Setting, worker_count, look_ahead, search_depth, turn_count, same_setting, greatest_value, default_value, has_setting, Entry, sets, traces, counts, numbers, numbers_of, is_allowed, given, AreWordsOf}
 use Rattle.pp_language.proofs.Bytes.{within}
 
 default_within : (s : Setting) → (1 ≤ default_value s) × (default_value s ≤ greatest_value s)

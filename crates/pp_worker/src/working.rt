@@ -15,7 +15,7 @@ use crate::turns::serve;
 use crossbeam_utils::Backoff;
 use pp_cell::Cell;
 use pp_space::Settled;
-use pp_stop::{Stop, Up};
+use pp_stop::{Stop, StopSeat, Up};
 use std::alloc::{AllocError, Global};
 use std::sync::Wait;
 
@@ -106,32 +106,14 @@ fn look_until_over<'a, E: Explorer, R: Wait>(
     unreachable!()
 }
 
-/// Turns until the search was seen to be settled, and looks then.
-fn turn_and_look<'a, E: Explorer, G: Gate, R: Wait>(
-    rt: &R,
-    alloc: Global,
-    space: &E,
-    cell: &Cell<'a, E>,
-    stop: &Stop,
-    desk: &mut Desk<'a, E>,
-    gate: &G,
-) -> Result<Settled<'a, E>, AllocError>
-    requires space { space.now ≡ pass_space desk.old.pass }
-    requires cell { IsPassOf cell.now desk.old.pass }
-    requires seat { IsSeatOf stop.now desk.old.seat }
-    ensures pass { SamePass desk.old.pass desk.new.pass }
-    ensures own { OnOk result (HasWorked desk.old.pass desk.new.pass) }
-    ensures over { OnOk result (is_over desk.new.pass ≡ true) }
-    ensures space { IfOk result (λ s. s.space.now ≡ pass_space desk.old.pass) }
-    ensures root { IfOk result (λ s. s.root ≡ pass_root desk.old.pass) }
-    ensures value { IfOk result (λ s. s.value ≡ pass_value desk.new.pass) }
-    ensures settled { OnOk result (saw_settled desk.new.seat ≡ true) }
-    ensures seat { IsSeatOf stop.now desk.new.seat }
-    ensures hand { SameHand desk.old.hand desk.new.hand }
-    ensures peeks { AreSamePeeks desk.old.peeks.items desk.new.peeks.items }
+/// Raises the dry bit: there is want of memory.
+fn run_dry(stop: &Stop, seat: &mut StopSeat) -> AllocError
+    requires { IsSeatOf stop.now seat.old }
+    ensures seat { IsSeatOf stop.now seat.new }
+    ensures dry { saw_dry seat.new ≡ true }
 {
-    turn_until_settled(rt, alloc, space, cell, stop, desk, gate)?;
-    look_until_over(rt, cell, desk)
+    stop.raise_dry(seat);
+    AllocError
 }
 
 /// Turns until it saw that the search is settled, and then looks until a look shows that it is over. On want of memory the
@@ -160,11 +142,11 @@ pub fn work<'a, E: Explorer, G: Gate, R: Wait>(
     ensures hand { SameHand desk.old.hand desk.new.hand }
     ensures peeks { AreSamePeeks desk.old.peeks.items desk.new.peeks.items }
 {
-    match turn_and_look(rt, alloc, space, cell, stop, desk, gate) {
+    if turn_until_settled(rt, alloc, space, cell, stop, desk, gate).is_err() {
+        return Err(run_dry(stop, &mut desk.seat));
+    }
+    match look_until_over(rt, cell, desk) {
         Ok(settled) => Ok(settled),
-        Err(_) => {
-            stop.raise_dry(&mut desk.seat);
-            Err(AllocError)
-        }
+        Err(_) => Err(run_dry(stop, &mut desk.seat)),
     }
 }

@@ -1,15 +1,12 @@
 -- Laws of the greatest of heights.
 use Rattle.std.specs.Prelude.{◌≡◌, ℕ, ◌≤◌, max, true, false, ◌&&◌, nat_eq, nat_lt}
 use Rattle.std.proofs.Common.{refl, eqb→eq, arith}
-use Rattle.std.proofs.Math.Nat.{le_antisymm, le_trans, max-le, le-max_left, le-max_right}
 use Rattle.std.proofs.lemmas.Bool.{and_from, and_parts, eq-eqb, le-leb, le-ltb, leb-true, lt-ltb, ltb-true}
 use Rattle.std.specs.Bool.{passes}
 use Rattle.pp_worker_tests.specs.Heights.{between, is_settled, outcome_of}
 
 pub max_grouped : (a b c : ℕ) → max (max a b) c ≡ max a (max b c)
-max_grouped a b c = le_antisymm
-    (max-le (max-le (le-max_left a (max b c)) (le_trans (le-max_left b c) (le-max_right a (max b c)))) (le_trans (le-max_right b c) (le-max_right a (max b c))))
-    (max-le (le_trans (le-max_left a b) (le-max_left (max a b) c)) (max-le (le_trans (le-max_right a b) (le-max_left (max a b) c)) (le-max_right (max a b) c)))
+max_grouped a b c = omega arith
 
 pub max_none : (a : ℕ) → max 0 a ≡ a
 max_none a = omega arith

@@ -1,5 +1,5 @@
 //! The calls of bindings, each with what it is to answer.
-ghost use Rattle.std.specs.Prelude.{◌↔◌, All, IsTrue};
+ghost use Rattle.std.specs.Prelude.{◌≡◌, ◌↔◌, All, IsTrue};
 ghost use Rattle.pp_unify.specs.States.{present, IsOver, IsLonger};
 ghost use Rattle.pp_algebra.specs.Numbered.{counted_from};
 ghost use Rattle.pp_unify.specs.Tops.{IsThere};
@@ -153,15 +153,41 @@ pub fn expect_size(
     assert_eq!(rt; size, wanted);
 }
 
-/// The row of these terms as they are now.
-fn resolved(rt: &impl Abort, alloc: Global, bindings: &Bindings, columns: &[&[Cell]]) -> Row {
+/// These terms, over the variables that are there.
+fn listed(rt: &impl Abort, alloc: Global, bindings: &Bindings, columns: &[&[Cell]]) -> Vec<Term>
+    ensures { All (IsOver (present bindings.now)) result.items }
+{
     let mut terms = Vec::new(alloc);
     for cells in columns {
         terms
             .push(own(rt, alloc, bindings, cells))
             .expect(rt, "memory");
     }
+    terms
+}
+
+/// The row of these terms as they are now.
+fn resolved(rt: &impl Abort, alloc: Global, bindings: &Bindings, columns: &[&[Cell]]) -> Row {
+    let terms = listed(rt, alloc, bindings, columns);
     bindings.resolve_row(terms.as_slice()).expect(rt, "memory")
+}
+
+/// The row covers that of these terms as they are now, or isn't known to.
+pub fn expect_covered(
+    rt: &impl Abort,
+    alloc: Global,
+    bindings: &mut Bindings,
+    columns: &[&[Cell]],
+    by: &Row,
+    wanted: bool,
+)
+    ensures { bindings.new ≡ bindings.old }
+{
+    let terms = listed(rt, alloc, bindings, columns);
+    let covered = bindings
+        .is_covered(terms.as_slice(), by)
+        .expect(rt, "memory");
+    assert_eq!(rt; covered, wanted);
 }
 
 /// These terms are those now, with their variables numbered by first occurrence.

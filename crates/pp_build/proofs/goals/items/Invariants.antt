@@ -1,5 +1,5 @@
 use Rattle.std.proofs.Common.{◌≡◌, map}
-use Rattle.pp_build.specs.Meanings.{item_of}
+use Rattle.pp_query.specs.Meanings.{item_of}
 use Rattle.pp_build.specs.Values.{item_from}
 use Rattle.pp_build.proofs.goals.items.Given as goal
 

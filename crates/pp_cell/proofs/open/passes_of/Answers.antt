@@ -1,7 +1,8 @@
 use Rattle.std.proofs.Common.{rules, ◌≡◌, ◌<◌, ◌++◌, ◌∷◌, [], ◌∙◌, Some, map, slice_get, length, remove, sym, ap, subst, arith}
+use Rattle.std.proofs.lemmas.List.{length-map, map_push, nil_from_length}
 use Rattle.pp_turn.specs.Seats.{Rests}
 use Rattle.pp_turn.proofs.Lists.{append_nil, by_place_snoc}
-use Rattle.pp_cell.proofs.Rows.{at_join, front, shift, map_snoc, length_map, nothing}
+use Rattle.pp_cell.proofs.Rows.{at_join, front, shift}
 use Rattle.pp_cell.proofs.open.passes_of.Goals as goal
 
 pub pass_of-requires-clause-seat : goal.pass_of-requires-clause-seat
@@ -14,7 +15,7 @@ pass_of-requires-clause-seat g c κs within =
     let n : c.loop-seats.number ≡ length c.loop-seats.all.items = search rules in
     let at : slice_get c.args.seats.items c.loop-seats.number ≡ Some r =
     ap (λ l. slice_get l c.loop-seats.number) (sym inv.seats ∙ ap (λ l. map (λ p. p.seat) c.loop-seats.all.items ++ l) first)
-    ∙ (ap (slice_get (map (λ p. p.seat) c.loop-seats.all.items ++ r ∷ remove c.loop-seats.seats.items 0)) (n ∙ sym (length_map (λ p. p.seat) c.loop-seats.all.items))
+    ∙ (ap (slice_get (map (λ p. p.seat) c.loop-seats.all.items ++ r ∷ remove c.loop-seats.seats.items 0)) (n ∙ sym (length-map c.loop-seats.all.items (λ p. p.seat)))
     ∙ at_join (map (λ p. p.seat) c.loop-seats.all.items) (remove c.loop-seats.seats.items 0) r) in
     (q.0, subst (λ t. Rests q.0 (Some (record { space = c.args.space.now; root = t })) c.loop-seats.number 1 [] r) (sym c.in_ok-begun.ensures) (q.1 c.loop-seats.number r at))
 
@@ -33,7 +34,7 @@ loop-seats-preserved g c =
       count = omega arith;
       seats =
           ap (λ l. map (λ p. p.seat) l ++ c.remove-seat.new.self.items) now
-          ∙ (ap (λ l. l ++ c.remove-seat.new.self.items) (map_snoc (λ p. p.seat) c.loop-seats.all.items c.pass_of.result)
+          ∙ (ap (λ l. l ++ c.remove-seat.new.self.items) (map_push (λ p. p.seat) c.loop-seats.all.items c.pass_of.result)
           ∙ (ap (λ x. (map (λ p. p.seat) c.loop-seats.all.items ++ x ∷ []) ++ c.remove-seat.new.self.items) c.pass_of.ensures.seat
           ∙ (sym (shift (map (λ p. p.seat) c.loop-seats.all.items) c.remove-seat.new.self.items r)
           ∙ (ap (λ l. map (λ p. p.seat) c.loop-seats.all.items ++ r ∷ l) rest ∙ (ap (λ l. map (λ p. p.seat) c.loop-seats.all.items ++ l) (sym first) ∙ inv.seats)))));
@@ -44,5 +45,5 @@ pub returns-clause-seats : goal.returns-clause-seats
 returns-clause-seats g c =
     let inv = c.loop-seats.invariant in
     let zero : length c.loop-seats.seats.items ≡ 0 = search rules in
-    let none : c.loop-seats.seats.items ≡ [] = nothing c.loop-seats.seats.items zero in
+    let none : c.loop-seats.seats.items ≡ [] = nil_from_length c.loop-seats.seats.items zero in
     sym (append_nil (map (λ p. p.seat) c.loop-seats.all.items)) ∙ (ap (λ l. map (λ p. p.seat) c.loop-seats.all.items ++ l) (sym none) ∙ inv.seats)

@@ -4,7 +4,7 @@ use Rattle.pp_propagation.specs.Turns.{woken}
 use Rattle.pp_wake.specs.Waiting.{IsGoalOf}
 use Rattle.pp_store.specs.Queries.{goals_in}
 use Rattle.pp_fix.specs.Committing.{while_told}
-use Rattle.pp_fix.proofs.Turning.{on_err}
+use Rattle.pp_store.proofs.Opening.{on_err}
 use Rattle.pp_fix.proofs.Waking.{woken_are_goals}
 use Rattle.pp_fix.proofs.Watched.{whole_turn, part_of_turn}
 use Rattle.pp_fix.proofs.commit.narrow_watched.Goals as goal

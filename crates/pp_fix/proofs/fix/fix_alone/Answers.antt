@@ -6,7 +6,8 @@ use Rattle.pp_term.specs.Meanings.{program}
 use Rattle.pp_store.specs.Queries.{goals_in}
 use Rattle.pp_fixpoint.specs.Fixpoints.{IsFixpoint, AreEnoughTurns}
 use Rattle.pp_fix.specs.declared.fix.End.TheVariants.{Yes, Stopped}
-use Rattle.pp_fix.proofs.Turning.{at_start, on_err}
+use Rattle.pp_store.proofs.Opening.{on_err}
+use Rattle.pp_fix.proofs.Turning.{at_start}
 use Rattle.pp_fix.proofs.Resting.{ends_at_rest, ends_in_time}
 use Rattle.pp_fix.proofs.fix.fix_alone.Goals as goal
 

@@ -7,7 +7,8 @@ use Rattle.pp_store.specs.Queries.{goals_in}
 use Rattle.pp_find.specs.Meanings.{verdict_by}
 use Rattle.pp_fix.specs.Marked.{marked}
 use Rattle.pp_fix.specs.Fixing.{IsBetweenTurns}
-use Rattle.pp_fix.proofs.Turning.{Between, have_room, between_turns, rests_now, stops_now, fails_now, leads_on, fails_by, goes_by, first_none, first_some, on_err, broken_off, begins, at_start}
+use Rattle.pp_store.proofs.Opening.{on_err}
+use Rattle.pp_fix.proofs.Turning.{Between, have_room, between_turns, rests_now, stops_now, fails_now, leads_on, fails_by, goes_by, first_none, first_some, broken_off, begins, at_start}
 use Rattle.std.proofs.lemmas.List.Elements.{All-map}
 use Rattle.pp_propagation.specs.Watchers.{HasRoom}
 use Rattle.pp_propagation.specs.Histories.{numbers_from}

@@ -1,5 +1,4 @@
-use Rattle.std.proofs.Common.{rules, sym, subst, length, ◌≤◌}
-use Rattle.pp_language.specs.Texts.{Text}
+use Rattle.std.proofs.Common.{rules, length, ◌≤◌}
 use Rattle.pp_language.specs.declared.limits.TheConstants.{TEXT_LIMIT}
 use Rattle.pp_run.proofs.Serving.{refused_long, refused_text}
 use Rattle.pp_run.proofs.begin.given.Goals as goal

@@ -1,6 +1,5 @@
 use Rattle.std.proofs.Common.{refl, subst}
 use Rattle.pp_language.specs.declared.status.Status.TheVariants as status
-use Rattle.pp_language.specs.Answers.{which_name, limit_text}
 use Rattle.pp_read.specs.Programs.{IsFaultOf}
 use Rattle.std.proofs.Common.{◌∙◌}
 use Rattle.pp_run.proofs.Replying.{short_reply, faulty_reply, limited_reply}

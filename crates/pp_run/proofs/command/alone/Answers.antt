@@ -1,9 +1,7 @@
 use Rattle.std.proofs.Common.{refl, ap, map}
 use Rattle.std.proofs.lemmas.List.Elements.{All-map}
-use Rattle.std.specs.Prelude.{IfOk, string_bytes}
 use Rattle.pp_language.specs.Commands.{AreWordsOfAlone}
 use Rattle.pp_propagation.specs.Watchers.{HasRoom}
-use Rattle.pp_run.specs.Made.{IsRanOf}
 use Rattle.pp_run.proofs.Commands.{none_asked, one_asked, runs_text, text_replied, text_noted}
 use Rattle.pp_run.proofs.EndingLemmas.{after_bad_words}
 use Rattle.pp_run.proofs.Refusing.{syntax_by, limit_by}

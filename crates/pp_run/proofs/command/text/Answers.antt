@@ -1,8 +1,6 @@
 use Rattle.std.proofs.Common.{refl, ap, map}
 use Rattle.std.proofs.lemmas.List.Elements.{All-map}
-use Rattle.std.specs.Prelude.{IfOk}
 use Rattle.pp_propagation.specs.Watchers.{HasRoom}
-use Rattle.pp_run.specs.Made.{IsRanOf}
 use Rattle.pp_run.proofs.Serving.{refused_replied, given_answered, given_noted}
 use Rattle.pp_run.proofs.command.text.Goals as goal
 

@@ -3,10 +3,10 @@ use Rattle.std.proofs.lemmas.List.Elements.{All-map}
 use Rattle.pp_propagation.specs.Stores.{Begins, BeginsNowhere}
 use Rattle.pp_propagation.specs.Watchers.{HasRoom}
 use Rattle.pp_term.specs.Meanings.{program}
+use Rattle.pp_store.proofs.Opening.{on_err}
 use Rattle.pp_store.specs.Kept.{Kept}
 use Rattle.pp_store.specs.Queries.{query_by}
 use Rattle.pp_run.specs.Made.{IsRan}
-use Rattle.pp_run.proofs.Replying.{on_err}
 use Rattle.pp_run.proofs.Running.{nowhere_ran, table_noted, table_ran, table_ran_noted}
 use Rattle.pp_run.proofs.run.run_with.Goals as goal
 
@@ -20,13 +20,13 @@ pub returns-in_err-fixed-clause-noted : goal.returns-in_err-fixed-clause-noted
 returns-in_err-fixed-clause-noted g c =
     let q = query_by c.args.query.now in
     let begun = subst (λ (o : Option Kept). MatchOption o (BeginsNowhere q) (λ s. Begins q s.row)) c.in-Some.is c.in_ok-begin.ensures.begins in
-    on_err _ c.from_residual-in_err-fixed.result (table_noted c.in_ok-table.table c.args.clauses c.in_ok-table.ensures c.args.settings _ _ c.args.query.now c.in-Some.store.row c.fix_with.new.store.row begun c.in_err-fixed.ensures.whole)
+    on_err c.from_residual-in_err-fixed.result _ (table_noted c.in_ok-table.table c.args.clauses c.in_ok-table.ensures c.args.settings _ _ c.args.query.now c.in-Some.store.row c.fix_with.new.store.row begun c.in_err-fixed.ensures.whole)
 
 pub returns-in_err-row-clause-noted : goal.returns-in_err-row-clause-noted
 returns-in_err-row-clause-noted g c =
     let q = query_by c.args.query.now in
     let begun = subst (λ (o : Option Kept). MatchOption o (BeginsNowhere q) (λ s. Begins q s.row)) c.in-Some.is c.in_ok-begin.ensures.begins in
-    on_err _ c.from_residual-in_err-row.result (table_ran_noted c.in_ok-table.table c.args.clauses c.in_ok-table.ensures c.args.settings _ _ c.args.query.now c.in-Some.store.row c.fix_with.new.store.row begun c.in_ok-fixed.fixed (All-map HasRoom _ _ c.requires.room) c.in_ok-fixed.ensures.run)
+    on_err c.from_residual-in_err-row.result _ (table_ran_noted c.in_ok-table.table c.args.clauses c.in_ok-table.ensures c.args.settings _ _ c.args.query.now c.in-Some.store.row c.fix_with.new.store.row begun c.in_ok-fixed.fixed (All-map HasRoom _ _ c.requires.room) c.in_ok-fixed.ensures.run)
 
 pub returns-clause-run : goal.returns-clause-run
 returns-clause-run g c =

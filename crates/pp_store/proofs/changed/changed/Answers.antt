@@ -1,4 +1,4 @@
-use Rattle.std.proofs.Common.{◌≡◌, ◌<◌, ◌∷◌, [], ◌++◌, length, get_or, take, append-nil, arith, refl, ap, sym, ◌∙◌, subst}
+use Rattle.std.proofs.Common.{◌<◌, ◌∷◌, [], ◌++◌, length, get_or, take, append-nil, arith, refl, ap, sym, ◌∙◌, subst}
 use Rattle.std.specs.Prelude.{cond, filter, not}
 use Rattle.pp_store.specs.Changing.{face_at, face_by, differs}
 use Rattle.pp_store.specs.Patterns.{row_in}

@@ -1,4 +1,4 @@
-use Rattle.std.proofs.Common.{◌<◌, get_or, arith, refl, ap, sym, ◌∙◌, subst}
+use Rattle.std.proofs.Common.{◌<◌, arith, refl, ap, sym, ◌∙◌, subst}
 use Rattle.pp_store.specs.Changing.{face_at, face_by}
 use Rattle.pp_store.specs.Patterns.{row_in}
 use Rattle.pp_store.specs.Queries.{asked_by, goals_in}

@@ -1,7 +1,7 @@
-use Rattle.std.proofs.Common.{◌≡◌, ◌<◌, length, take, get_or, arith, sym, ap, ◌∙◌, subst, inl, refl}
+use Rattle.std.proofs.Common.{◌<◌, length, take, get_or, arith, sym, ◌∙◌, subst, inl, refl}
 use Rattle.std.proofs.lemmas.List.{take_more}
 use Rattle.pp_algebra.specs.Covers.{IsIn}
-use Rattle.pp_algebra.specs.Terms.{variable, variables}
+use Rattle.pp_algebra.specs.Terms.{variables}
 use Rattle.pp_store.specs.Numbers.{AreNumbers}
 use Rattle.pp_store.proofs.Applying.{IsIn-terms}
 use Rattle.pp_store.proofs.FreshNumbers.{fresh_are, not_taken}

@@ -1,4 +1,4 @@
-use Rattle.std.proofs.Common.{◌≡◌, ◌+◌, ◌<◌, length, get_or, pos, arith, sym, ap, ◌∙◌, subst, inl, inr, ℕ}
+use Rattle.std.proofs.Common.{◌<◌, length, get_or, pos, arith, sym, ap, ◌∙◌, subst, inl, inr}
 use Rattle.std.proofs.lemmas.Bool.{cases_eq}
 use Rattle.pp_algebra.specs.Covers.{IsIn}
 use Rattle.pp_algebra.specs.Terms.{int, variables}

@@ -1,4 +1,4 @@
-use Rattle.std.proofs.Common.{◌≡◌, ◌<◌, length, map, arith, ap, ◌∙◌, subst}
+use Rattle.std.proofs.Common.{◌<◌, length, map, arith, ap, ◌∙◌, subst}
 use Rattle.std.proofs.lemmas.List.{take_all}
 use Rattle.pp_algebra.specs.Terms.{put, variables}
 use Rattle.pp_algebra.specs.Covers.{IsIn}

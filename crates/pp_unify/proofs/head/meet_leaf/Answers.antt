@@ -15,27 +15,27 @@ use Rattle.pp_unify.proofs.head.meet_leaf.Goals as goal
 pub returns-in-Int-clause-stepped : goal.returns-in-Int-clause-stepped
 returns-in-Int-clause-stepped c =
     let a = c.args.state.now in
-    let b = c.unify_values.new.state in
+    let b = c.meet_int.new.state in
     let cs = c.args.cells.now in
     let t = value_term a.heap.items c.args.value in
     let z = c.in-Int.known in
     let n = subst IsLegalCell c.in-Int.is (legal_at cs c.args.at c.requires.head c.requires.within) in
     let e = ap (counted_from c.args.first) (int_at cs c.args.at z c.requires.head c.requires.within c.in-Int.is) in
-    IfOk-weaker c.unify_values.result (IsVerdict a b (equation t (int z))) (HasStepped a b t c.args.first cs c.args.at)
-    (λ r v. fixed_stepped a b t (int z) c.args.first cs c.args.at r c.unify_values.ensures.later e v)
-    (rw (word z n) at c.unify_values.ensures.verdict)
+    IfOk-weaker c.meet_int.result (IsVerdict a b (equation t (int z))) (HasStepped a b t c.args.first cs c.args.at)
+    (λ r v. fixed_stepped a b t (int z) c.args.first cs c.args.at r c.meet_int.ensures.later e v)
+    (rw (word z n) at c.meet_int.ensures.verdict)
 
 pub returns-in-Atom-clause-stepped : goal.returns-in-Atom-clause-stepped
 returns-in-Atom-clause-stepped c =
     let a = c.args.state.now in
-    let b = c.unify_values-in-Atom.new.state in
+    let b = c.meet_atom.new.state in
     let cs = c.args.cells.now in
     let t = value_term a.heap.items c.args.value in
     let u = node c.in-Atom.name none in
     let e = ap (counted_from c.args.first) (atom_at cs c.args.at c.in-Atom.name c.requires.head c.requires.within c.in-Atom.is) in
-    IfOk-weaker c.unify_values-in-Atom.result (IsVerdict a b (equation t u)) (HasStepped a b t c.args.first cs c.args.at)
-    (λ r v. fixed_stepped a b t u c.args.first cs c.args.at r c.unify_values-in-Atom.ensures.later e v)
-    c.unify_values-in-Atom.ensures.verdict
+    IfOk-weaker c.meet_atom.result (IsVerdict a b (equation t u)) (HasStepped a b t c.args.first cs c.args.at)
+    (λ r v. fixed_stepped a b t u c.args.first cs c.args.at r c.meet_atom.ensures.later e v)
+    c.meet_atom.ensures.verdict
 
 pub returns-in-Var-clause-stepped : goal.returns-in-Var-clause-stepped
 returns-in-Var-clause-stepped c =

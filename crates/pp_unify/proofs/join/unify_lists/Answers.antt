@@ -4,9 +4,10 @@ use Rattle.pp_algebra.specs.Terms.{none, count}
 use Rattle.pp_row.specs.Reading.{forest, from}
 use Rattle.pp_heap.specs.Spans.{IsSpan}
 use Rattle.pp_unify.specs.Taking.{left_of}
-use Rattle.pp_unify.proofs.Walking.{begun, count_counted, wider_grown, never, passed, met, met_counts, met_apart, reached}
+use Rattle.pp_unify.proofs.Walking.{begun, count_counted, wider_grown, never, passed, met, met_counts, met_apart, reached, some_left}
 use Rattle.pp_unify.proofs.Wider.{onward_itself, onward_through, onward_grown}
 use Rattle.pp_unify.proofs.Widths.{wider_itself, wider_through}
+use Rattle.pp_unify.proofs.Stepping.{next_turned}
 use Rattle.pp_unify.proofs.join.unify_lists.Goals as goal
 
 pub loop-next-init : goal.loop-next-init
@@ -66,6 +67,51 @@ returns-in_err-after-in-Value-clause-onward c =
     let b = c.meet_head.new.state in
     onward_through c.args.state.now i b c.loop-next.invariant.onward (onward_through i j b (onward_grown i j c.take_next.ensures.grown) c.meet_head.ensures.onward)
 
+pub take_slot-requires-clause-some : goal.take_slot-requires-clause-some
+take_slot-requires-clause-some c = some_left c.loop-next.state c.loop-next.work.items c.args.first c.args.goal.now c.loop-next.at c.args.head.now c.loop-next.next c.requires.head c.loop-next-test.true c.loop-next.invariant.counts
+
+pub returns-in_err-slot-clause-onward : goal.returns-in_err-slot-clause-onward
+returns-in_err-slot-clause-onward c =
+    let i = c.loop-next.state in
+    let j = c.take_slot.new.state in
+    onward_through c.args.state.now i j c.loop-next.invariant.onward (onward_grown i j c.take_slot.ensures.grown)
+
+pub returns-in_err-add_variable-clause-onward : goal.returns-in_err-add_variable-clause-onward
+returns-in_err-add_variable-clause-onward c =
+    let i = c.loop-next.state in
+    let j = c.take_slot.new.state in
+    let b = c.add_variable.new.state in
+    onward_through c.args.state.now i b c.loop-next.invariant.onward (onward_through i j b (onward_grown i j c.take_slot.ensures.grown) c.add_variable.ensures.onward)
+
+pub loop-next-preserved-in-Some : goal.loop-next-preserved-in-Some
+loop-next-preserved-in-Some c =
+    let a = c.args.state.now in
+    let i = c.loop-next.state in
+    let j = c.take_slot.new.state in
+    let b = c.add_variable.new.state in
+    let ws = c.loop-next.work.items in
+    let us = c.take_slot.new.work.items in
+    let n = c.args.first in
+    let goal = c.args.goal.now in
+    let at = c.loop-next.at in
+    let m = c.args.base in
+    let head = c.args.head.now in
+    let to = c.loop-next.next in
+    let g = c.take_slot.ensures.grown in
+    let good = c.loop-next.invariant.onward.good in
+    let r = c.loop-next.invariant.same in
+    let h = rw c.in-Some.is at c.next_variable.ensures in
+    let v = c.in_ok-slot.ensures.taken in
+    let k = c.in_ok-add_variable.ensures.met v.0 v.1 v.2.now in
+    let t = next_turned i j b us v.0 m head to c.in-Some.number g.good c.requires.head c.loop-next-test.true c.in_ok-slot.ensures.all h k in
+    record {
+      onward = onward_through a i b c.loop-next.invariant.onward (onward_through i j b (onward_grown i j g) c.add_variable.ensures.onward);
+      wider = wider_through a j b m head (wider_through a i j m head c.loop-next.invariant.wider (wider_grown i j m head g)) t.wider;
+      all = t.all;
+      counts = met_counts a i j ws us n goal at _ m head to good g r b us v.0 v.2 (to + 1) c.loop-next.invariant.counts t;
+      same = met a i j ws us n goal at _ m head to good g r b us v.0 v.2 (to + 1) t;
+    }
+
 pub loop-next-preserved : goal.loop-next-preserved
 loop-next-preserved c =
     let a = c.args.state.now in
@@ -87,13 +133,13 @@ loop-next-preserved c =
     let good = c.loop-next.invariant.onward.good in
     let r = c.loop-next.invariant.same in
     let o = rw c.in-Value.is at c.in_ok-take_next.ensures.taken in
-    let t = rw c.in-Some.is at c.in_ok-after-in-Value.ensures.turned in
+    let t = rw c.in-Some-2.is at c.in_ok-after-in-Value.ensures.turned in
     record {
       onward = onward_through a i b c.loop-next.invariant.onward (onward_through i j b (onward_grown i j g) c.meet_head.ensures.onward);
       wider = wider_through a j b m head (wider_through a i j m head c.loop-next.invariant.wider (wider_grown i j m head g)) t.wider;
       all = t.all;
-      counts = met_counts a i j ws us n goal at on m head to good g r b now v o c.in-Some.after c.loop-next.invariant.counts t;
-      same = met a i j ws us n goal at on m head to good g r b now v o c.in-Some.after t;
+      counts = met_counts a i j ws us n goal at on m head to good g r b now v o c.in-Some-2.after c.loop-next.invariant.counts t;
+      same = met a i j ws us n goal at on m head to good g r b now v o c.in-Some-2.after t;
     }
 
 pub returns-in-None-clause-onward : goal.returns-in-None-clause-onward

@@ -1,7 +1,6 @@
-use Rattle.std.proofs.Common.{◌≡◌, ◌<◌, ◌≤◌, ◌^◌, ◌∷◌, [], length, ap, sym, subst, arith, rules, length-append}
+use Rattle.std.proofs.Common.{◌<◌, ◌^◌, ◌∷◌, [], length, ap, sym, subst, rules}
 use Rattle.pp_algebra.specs.Solve.{equation}
 use Rattle.pp_algebra.specs.Terms.{variable}
-use Rattle.pp_heap.specs.declared.state.State.{State}
 use Rattle.pp_heap.specs.declared.state.Entry.TheVariants.{Defined}
 use Rattle.pp_heap.specs.Values.{slot_of, value_term}
 use Rattle.pp_heap.specs.Stores.{Store, store_of}

@@ -1,6 +1,6 @@
 use Rattle.std.proofs.Common.{refl, sym, ◌∙◌, arith}
 use Rattle.pp_watch.specs.Watching.{change_by}
-use Rattle.pp_watch.proofs.Noting.{seen_begins, seen_room, seen_stays, seen_leaves, seen_part, on_err}
+use Rattle.pp_watch.proofs.Noting.{seen_begins, seen_room, seen_stays, seen_leaves, seen_part}
 use Rattle.pp_watch.proofs.note.note_all.Goals as goal
 
 pub loop-at-init : goal.loop-at-init
@@ -12,9 +12,8 @@ note_one-requires g c =
 
 pub returns-in_err-note_one-clause-part : goal.returns-in_err-note_one-clause-part
 returns-in_err-note_one-clause-part g c =
-    on_err c.from_residual.result _
-    (seen_part (λ w. (goal.Watcher-dyn g (w.vtable, w.value)).state w.value) (change_by c.args.change.now) c.loop-at.at c.loop-at.watchers.items _ _ c.index_mut.result.now (omega (arith, c.loop-at-test.true, c.len.ensures)) c.loop-at.invariant c.index_mut.ensures.value
-    c.note_one.new.watcher c.in_err-note_one.ensures.err _ refl)
+    seen_part (λ w. (goal.Watcher-dyn g (w.vtable, w.value)).state w.value) (change_by c.args.change.now) c.loop-at.at c.loop-at.watchers.items _ _ c.index_mut.result.now (omega (arith, c.loop-at-test.true, c.len.ensures)) c.loop-at.invariant c.index_mut.ensures.value
+    c.note_one.new.watcher c.from_residual.result c.in_err-note_one.ensures.err _ refl
 
 pub loop-at-preserved-in-Stay : goal.loop-at-preserved-in-Stay
 loop-at-preserved-in-Stay g c =

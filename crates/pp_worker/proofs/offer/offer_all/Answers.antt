@@ -1,5 +1,6 @@
 use Rattle.std.proofs.Common.{rules, ◌≡◌, ◌<◌, ◌++◌, ◌∷◌, [], ◌∙◌, length, remove, sym, ap, append_assoc, append-nil}
-use Rattle.pp_cell.proofs.Rows.{front, nothing}
+use Rattle.std.proofs.lemmas.List.{nil_from_length}
+use Rattle.pp_cell.proofs.Rows.{front}
 use Rattle.pp_deal.specs.Hands.{offered}
 use Rattle.pp_worker.proofs.offer.offer_all.Goals as goal
 
@@ -19,4 +20,4 @@ loop-hand-preserved g c =
 pub returns-clause-offered : goal.returns-clause-offered
 returns-clause-offered g c =
     let zero : length c.loop-hand.tasks.items ≡ 0 = search rules in
-    sym (append-nil (offered c.loop-hand.hand)) ∙ (ap (λ l. offered c.loop-hand.hand ++ l) (sym (nothing c.loop-hand.tasks.items zero)) ∙ c.loop-hand.invariant.offered)
+    sym (append-nil (offered c.loop-hand.hand)) ∙ (ap (λ l. offered c.loop-hand.hand ++ l) (sym (nil_from_length c.loop-hand.tasks.items zero)) ∙ c.loop-hand.invariant.offered)

@@ -1,6 +1,7 @@
 use Rattle.std.proofs.Common.{rules, ◌≡◌, ◌∙◌, slice_get, length, sym, ap, subst}
+use Rattle.std.proofs.lemmas.List.{length-map}
 use Rattle.pp_turn.specs.Seats.{AreSeats}
-use Rattle.pp_cell.proofs.Rows.{map_at, length_map}
+use Rattle.pp_cell.proofs.Rows.{map_at}
 use Rattle.pp_cell.proofs.cell.Cell.new.Goals as goal
 
 pub passes_of-requires-clause-seats : goal.passes_of-requires-clause-seats
@@ -12,7 +13,7 @@ passes_of-requires-clause-seats g c κs within =
 pub returns-in-Ok-clause-passes : goal.returns-in-Ok-clause-passes
 returns-in-Ok-clause-passes g c =
     let rights : length c.in-Ok.rights.items ≡ c.args.seats = search rules in
-    let count : length c.in_ok-passes-in-Ok.passes.items ≡ length c.in-Ok.rights.items = sym (length_map (λ p. p.seat) c.in_ok-passes-in-Ok.passes.items) ∙ ap length c.in_ok-passes-in-Ok.ensures.seats in (
+    let count : length c.in_ok-passes-in-Ok.passes.items ≡ length c.in-Ok.rights.items = sym (length-map c.in_ok-passes-in-Ok.passes.items (λ p. p.seat)) ∙ ap length c.in_ok-passes-in-Ok.ensures.seats in (
       count ∙ (rights ∙ sym c.in-Ok.ensures.count.1),
       (λ i p at.
           let r = c.in-Ok.ensures.seats i p.seat (ap (λ l. slice_get l i) (sym c.in_ok-passes-in-Ok.ensures.seats) ∙ map_at (λ p. p.seat) c.in_ok-passes-in-Ok.passes.items i p at) in

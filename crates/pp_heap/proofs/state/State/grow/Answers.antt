@@ -1,4 +1,4 @@
-use Rattle.std.proofs.Common.{◌≡◌, ◌++◌, ◌<◌, ◌^◌, ◌+◌, ap, refl, reverse, rules, length, length-append, arith}
+use Rattle.std.proofs.Common.{◌≡◌, ◌++◌, ◌<◌, ◌^◌, ◌+◌, ◌-◌, ap, refl, reverse, rules, length, length-append, arith}
 use Rattle.std.proofs.lemmas.List.{length-map}
 use Rattle.pp_row.specs.Cells.{renamed}
 use Rattle.pp_heap.specs.Stores.{Store}
@@ -15,22 +15,22 @@ returns-in_err-push-clause-grown c = grown_calm c.args.self.now _ (calm_same c.a
 pub returns-in_err-push_shifted-clause-grown : goal.returns-in_err-push_shifted-clause-grown
 returns-in_err-push_shifted-clause-grown c =
     let t = c.args.self.now in
-    let e : c.in_ok-at.at ≡ length t.heap.items = search rules in
-    grown_entry t _ c.in_ok-at.at c.requires.good e (record {
+    let e : c.in_ok-end.end - length c.args.cells.now ≡ length t.heap.items = search rules in
+    grown_entry t _ (c.in_ok-end.end - length c.args.cells.now) c.requires.good e (record {
       store = ap (λ h. let r : Store = record { heap = h; domains = t.domains.items; slots = t.slots.items } in r) c.in_err-push_shifted.ensures.err;
-      entries = entries_push t.trail.items c.push.new.self.items (Grown c.in_ok-at.at) c.in_ok-push.ensures.items;
+      entries = entries_push t.trail.items c.push.new.self.items (Grown (c.in_ok-end.end - length c.args.cells.now)) c.in_ok-push.ensures.items;
     })
 
 pub returns-clause-grown : goal.returns-clause-grown
 returns-clause-grown c =
     let t = c.args.self.now in
-    let e : c.in_ok-at.at ≡ length t.heap.items = search rules in
+    let e : c.in_ok-end.end - length c.args.cells.now ≡ length t.heap.items = search rules in
     let m : length (shifted c.args.first c.args.cells.now) ≡ length c.args.cells.now = length-map c.args.cells.now (renamed (λ v. c.args.first + v)) in
     let k : length t.heap.items + length c.args.cells.now < 2 ^ 32 = search rules in
     let l : length (t.heap.items ++ shifted c.args.first c.args.cells.now) < 2 ^ 32 = omega (arith, k, m, length-append t.heap.items (shifted c.args.first c.args.cells.now)) in
-    grown t _ c.in_ok-at.at (shifted c.args.first c.args.cells.now) c.requires.good e (record { forest = c.requires.forest; variables = c.requires.variables }) l (record {
+    grown t _ (c.in_ok-end.end - length c.args.cells.now) (shifted c.args.first c.args.cells.now) c.requires.good e (record { forest = c.requires.forest; variables = c.requires.variables }) l (record {
       store = ap (λ h. let r : Store = record { heap = h; domains = t.domains.items; slots = t.slots.items } in r) c.in_ok-push_shifted.ensures.cells;
-      entries = entries_push t.trail.items c.push.new.self.items (Grown c.in_ok-at.at) c.in_ok-push.ensures.items;
+      entries = entries_push t.trail.items c.push.new.self.items (Grown (c.in_ok-end.end - length c.args.cells.now)) c.in_ok-push.ensures.items;
     })
 
 pub push_shifted-requires : goal.push_shifted-requires

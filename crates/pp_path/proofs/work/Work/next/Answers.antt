@@ -1,7 +1,7 @@
 use Rattle.std.proofs.Common.{rules, ◌≡◌, ◌+◌, true, false, suc, cond, map, length, Some, None, List, [], ◌∷◌, ◌++◌, sym, ap, ◌∙◌, subst, arith}
 use Rattle.pp_sld.specs.Works as works
 use Rattle.pp_path.specs.declared.levels.Level.{Level}
-use Rattle.pp_path.specs.Works.{level, level_by, work_by, has_sibling, AreLevels}
+use Rattle.pp_path.specs.Works.{code_level, level_by, work_by, has_sibling, AreLevels}
 use Rattle.pp_path.proofs.LevelLists.{next_last, levels_front, levels_snoc, sibling_is_level, some_next, next_of, no_snoc, length_snoc}
 use Rattle.pp_path.proofs.work.Work.next.Goals as goal
 
@@ -12,9 +12,9 @@ invariant_of-self c =
     let all : c.loop.self-inside.levels.items ≡ new ++ x ∷ [] = search rules in
     let sibling : has_sibling x ≡ true = sym c.has_sibling.ensures ∙ c.if-has_sibling.true in
     let one : x.now + 1 ≡ suc x.now = omega arith in
-    let put : c.push_reserved.new.self.items ≡ new ++ level (suc x.now) x.end ∷ [] = c.push_reserved.ensures.items ∙ ap (λ n. new ++ level n x.end ∷ []) one in
+    let put : c.push_reserved.new.self.items ≡ new ++ code_level (suc x.now) x.end ∷ [] = c.push_reserved.ensures.items ∙ ap (λ n. new ++ code_level n x.end ∷ []) one in
     let front : AreLevels new = levels_front new x (subst AreLevels all c.loop.invariant.2) in
-    (omega (arith, c.loop.invariant.0, c.pop.ensures.capacity, c.push_reserved.ensures.capacity), subst AreLevels (sym put) (levels_snoc new (level (suc x.now) x.end) front (sibling_is_level x sibling)), λ e. absurd (no_snoc new x (sym all ∙ c.loop.invariant.5 e)))
+    (omega (arith, c.loop.invariant.0, c.pop.ensures.capacity, c.push_reserved.ensures.capacity), subst AreLevels (sym put) (levels_snoc new (code_level (suc x.now) x.end) front (sibling_is_level x sibling)), λ e. absurd (no_snoc new x (sym all ∙ c.loop.invariant.5 e)))
 
 pub returns-then-has_sibling-clause-next : goal.returns-then-has_sibling-clause-next
 returns-then-has_sibling-clause-next c =
@@ -23,7 +23,7 @@ returns-then-has_sibling-clause-next c =
     let all : c.loop.self-inside.levels.items ≡ new ++ x ∷ [] = search rules in
     let sibling : has_sibling x ≡ true = sym c.has_sibling.ensures ∙ c.if-has_sibling.true in
     let one : x.now + 1 ≡ suc x.now = omega arith in
-    let put : c.push_reserved.new.self.items ≡ new ++ level (suc x.now) x.end ∷ [] = c.push_reserved.ensures.items ∙ ap (λ n. new ++ level n x.end ∷ []) one in
+    let put : c.push_reserved.new.self.items ≡ new ++ code_level (suc x.now) x.end ∷ [] = c.push_reserved.ensures.items ∙ ap (λ n. new ++ code_level n x.end ∷ []) one in
     let spent : c.loop.self-inside.is_spent ≡ true → new ++ x ∷ [] ≡ [] = λ e. sym all ∙ c.loop.invariant.5 e in
     ap (λ (v : List Level). work_by (cond c.loop.self-inside.is_spent None (Some v))) put
     ∙ (some_next c.loop.self-inside.is_spent new x spent sibling

@@ -1,7 +1,7 @@
 use Rattle.std.proofs.Common.{◌+◌, cond, map, Some, None, List, sym, ap, ◌∙◌, subst, arith, true≢false}
 use Rattle.pp_sld.specs.Works as works
 use Rattle.pp_path.specs.declared.levels.Level.{Level}
-use Rattle.pp_path.specs.Works.{level, level_by, work_by, AreLevels, skipped, HasMore}
+use Rattle.pp_path.specs.Works.{code_level, level_by, work_by, AreLevels, skipped, HasMore}
 use Rattle.pp_path.proofs.LevelLists.{skipped_last, levels_with_more, moved_last, levels_front, levels_snoc}
 use Rattle.pp_path.proofs.work.Work.skip.Goals as goal
 
@@ -12,7 +12,7 @@ invariant_of-self c =
     let front : List Level = more.1 in
     let l : Level = more.2 in
     let new = moved_last ls c.deref.result.now front c.put.new.levels.items l c.args.count c.len-place.result c.deref.ensures more.3 c.len-place.ensures.value c.put.ensures.items in
-    (omega (arith, c.self.invariant.0, c.put.ensures.capacity), subst AreLevels (sym new) (levels_snoc front (level (l.now + c.args.count) l.end) (levels_front front l (subst AreLevels more.3 c.self.invariant.1)) more.4), λ e. absurd (true≢false (sym e ∙ more.0)))
+    (omega (arith, c.self.invariant.0, c.put.ensures.capacity), subst AreLevels (sym new) (levels_snoc front (code_level (l.now + c.args.count) l.end) (levels_front front l (subst AreLevels more.3 c.self.invariant.1)) more.4), λ e. absurd (true≢false (sym e ∙ more.0)))
 
 pub returns : goal.returns
 returns c =

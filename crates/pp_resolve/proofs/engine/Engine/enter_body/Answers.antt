@@ -4,7 +4,8 @@ use Rattle.pp_unify.specs.States.{present}
 use Rattle.pp_resolve.specs.Engines.{row_of}
 use Rattle.pp_resolve.specs.declared.history.Front.{Front}
 use Rattle.pp_resolve.specs.declared.engine.Engine.{Engine}
-use Rattle.pp_resolve.proofs.Choosing.{took_true, took_false, kept_longer, above_longer, call_lent, left_depth, called_pred, clause_formed, clause_width, call_fails, call_takes, call_good}
+use Rattle.pp_resolve.proofs.Choosing.{took_true, took_false, good_again, place_again, above_longer, call_lent, left_depth, called_pred, clause_formed, clause_width, call_fails, call_takes, call_good}
+use Rattle.pp_walk.proofs.Marks.{on_err}
 use Rattle.pp_resolve.proofs.engine.Engine.enter_body.Goals as goal
 
 pub number-number-requires : goal.number-number-requires
@@ -19,27 +20,18 @@ enter-requires-clause-formed c = clause_formed c.args.self.now c.requires.good c
 pub enter-requires-clause-width : goal.enter-requires-clause-width
 enter-requires-clause-width c = clause_width c.args.self.now c.requires.good c.requires.wait c.args.predicate c.requires.sees c.args.place c.requires.choice c.number-number.result c.number-number.ensures.clause c.goal_at-goal.result c.goal_at-goal.ensures
 
-pub returns-in_err-entered-clause-ready : goal.returns-in_err-entered-clause-ready
-returns-in_err-entered-clause-ready c = kept_longer c.args.self.now c.enter.new.bindings c.args.self.now.front c.requires.good.ready c.enter.ensures.kept
-
-pub returns-in_err-entered-clause-above : goal.returns-in_err-entered-clause-above
-returns-in_err-entered-clause-above c = above_longer c.args.self.now c.enter.new.bindings c.args.self.now.front c.requires.good.ready c.enter.ensures.kept
-
 pub overflow_sub-self : goal.overflow_sub-self
 overflow_sub-self c = let d = left_depth c.args.self.now c.requires.good c.requires.wait c.args.predicate c.requires.sees c.args.place c.requires.choice in let z = d.1 in omega (arith, z)
-
-pub returns-then-entered-clause-ready : goal.returns-then-entered-clause-ready
-returns-then-entered-clause-ready c = let e = c.args.self.now in kept_longer c.args.self.now c.enter.new.bindings (let f : Front = record { passed = e.front.passed; waits = e.front.waits; rest = record { body = Some c.number-number.result; from = 0; to = c.body_len-to.result; first = c.in_ok-first.first; next = c.args.next }; depth = e.front.depth - 1; selected = None } in f) c.requires.good.ready c.enter.ensures.kept
 
 pub returns-then-entered-clause-above : goal.returns-then-entered-clause-above
 returns-then-entered-clause-above c = let e = c.args.self.now in above_longer c.args.self.now c.enter.new.bindings (let f : Front = record { passed = e.front.passed; waits = e.front.waits; rest = record { body = Some c.number-number.result; from = 0; to = c.body_len-to.result; first = c.in_ok-first.first; next = c.args.next }; depth = e.front.depth - 1; selected = None } in f) c.requires.good.ready c.enter.ensures.kept
 
 pub returns-then-entered-clause-good : goal.returns-then-entered-clause-good
-returns-then-entered-clause-good c t =
+returns-then-entered-clause-good c =
     let e = c.args.self.now in
     let first : c.in_ok-first.first ≡ count (row_of e).columns = search rules in
     let small : c.body_len-to.result < 2 ^ 32 = search rules in
-    call_good e c.requires.good c.requires.wait c.args.predicate c.requires.sees c.args.place c.requires.choice c.number-number.result c.number-number.ensures.clause c.goal_at-goal.result c.goal_at-goal.ensures (present c.enter.new.bindings) c.in_ok-entered.entered c.in_ok-entered.ensures.entered t c.in_ok-first.first c.body_len-to.result c.args.next first c.body_len-to.ensures small c.requires.next c.enter.new.bindings refl c.enter.ensures.kept
+    call_good e c.requires.good c.requires.wait c.args.predicate c.requires.sees c.args.place c.requires.choice c.number-number.result c.number-number.ensures.clause c.goal_at-goal.result c.goal_at-goal.ensures (present c.enter.new.bindings) c.in_ok-entered.entered c.in_ok-entered.ensures.entered c.if-entered.true c.in_ok-first.first c.body_len-to.result c.args.next first c.body_len-to.ensures small c.requires.next c.enter.new.bindings refl c.enter.ensures.kept
 
 pub returns-then-entered-clause-took : goal.returns-then-entered-clause-took
 returns-then-entered-clause-took c =
@@ -50,15 +42,24 @@ returns-then-entered-clause-took c =
     let new : Engine = record { clauses = e.clauses; root = e.root; columns = e.columns; history = record e.history { bindings = c.enter.new.bindings }; front = (let f : Front = record { passed = e.front.passed; waits = e.front.waits; rest = record { body = Some c.number-number.result; from = 0; to = c.body_len-to.result; first = c.in_ok-first.first; next = c.args.next }; depth = e.front.depth - 1; selected = None } in f) } in
     took_true e new c.args.place c.in_ok-entered.entered c.if-entered.true t
 
-pub returns-else-entered-clause-ready : goal.returns-else-entered-clause-ready
-returns-else-entered-clause-ready c = kept_longer c.args.self.now c.enter.new.bindings c.args.self.now.front c.requires.good.ready c.enter.ensures.kept
-
-pub returns-else-entered-clause-above : goal.returns-else-entered-clause-above
-returns-else-entered-clause-above c = above_longer c.args.self.now c.enter.new.bindings c.args.self.now.front c.requires.good.ready c.enter.ensures.kept
-
 pub returns-else-entered-clause-took : goal.returns-else-entered-clause-took
 returns-else-entered-clause-took c =
     let e = c.args.self.now in
     let f = call_fails e c.requires.good c.requires.wait c.args.predicate c.requires.sees c.args.place c.requires.choice c.number-number.result c.number-number.ensures.clause c.goal_at-goal.result c.goal_at-goal.ensures (present c.enter.new.bindings) c.in_ok-entered.entered c.in_ok-entered.ensures.entered c.if-entered.false in
     let new : Engine = record { clauses = e.clauses; root = e.root; columns = e.columns; history = record e.history { bindings = c.enter.new.bindings }; front = e.front } in
-    took_false e new c.args.place c.in_ok-entered.entered c.if-entered.false f
+    took_false e new c.args.place c.in_ok-entered.entered c.if-entered.false f (place_again e c.enter.new.bindings (c.in_ok-entered.ensures.stays c.if-entered.false))
+
+pub returns-else-entered-clause-good : goal.returns-else-entered-clause-good
+returns-else-entered-clause-good c = good_again c.args.self.now c.enter.new.bindings (c.in_ok-entered.ensures.stays c.if-entered.false) c.requires.good
+
+pub returns-else-entered-clause-above : goal.returns-else-entered-clause-above
+returns-else-entered-clause-above c = above_longer c.args.self.now c.enter.new.bindings c.args.self.now.front c.requires.good.ready c.enter.ensures.kept
+
+pub returns-in_err-entered-clause-good : goal.returns-in_err-entered-clause-good
+returns-in_err-entered-clause-good c = good_again c.args.self.now c.enter.new.bindings c.in_err-entered.ensures.err c.requires.good
+
+pub returns-in_err-entered-clause-above : goal.returns-in_err-entered-clause-above
+returns-in_err-entered-clause-above c = above_longer c.args.self.now c.enter.new.bindings c.args.self.now.front c.requires.good.ready c.enter.ensures.kept
+
+pub returns-in_err-entered-clause-err : goal.returns-in_err-entered-clause-err
+returns-in_err-entered-clause-err c = on_err c.from_residual-in_err-entered.result (place_again c.args.self.now c.enter.new.bindings c.in_err-entered.ensures.err)

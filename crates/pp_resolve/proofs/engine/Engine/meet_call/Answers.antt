@@ -5,13 +5,6 @@ use Rattle.pp_resolve.proofs.Linked.{goal_there}
 use Rattle.pp_resolve.proofs.Stepping.{at_spent, at_called, call_cost, met}
 use Rattle.pp_resolve.proofs.engine.Engine.meet_call.Goals as goal
 
-pub returns-in_err-row-clause-cost : goal.returns-in_err-row-clause-cost
-returns-in_err-row-clause-cost c =
-    let e = c.args.self.now in
-    let g = goal_there e.clauses.now (goal_of e) (length e.history.links.items) e.front.rest c.requires.good.here.rest c.requires.sees.0 in
-    let p = (c.requires.sees.1 g.0 g.1).0 in
-    call_cost e c.requires.good c.requires.wait c.requires.sees.0 g.0 g.1 (predicate_of p.0) p.2
-
 pub returns-then-self-eq0-clause-cost : goal.returns-then-self-eq0-clause-cost
 returns-then-self-eq0-clause-cost c =
     let e = c.args.self.now in
@@ -31,7 +24,7 @@ returns-then-self-eq0-clause-stepped c =
     let e = c.args.self.now in
     let g = goal_there e.clauses.now (goal_of e) (length e.history.links.items) e.front.rest c.requires.good.here.rest c.requires.sees.0 in
     let p = (c.requires.sees.1 g.0 g.1).0 in
-    (at_spent e c.requires.good c.requires.wait c.requires.sees.0 g.0 g.1 (predicate_of p.0) p.2 c.if-self-eq0.true, c.in_ok-row.ensures, refl)
+    (at_spent e c.requires.good c.requires.wait c.requires.sees.0 g.0 g.1 (predicate_of p.0) p.2 c.if-self-eq0.true, refl)
 
 pub returns-clause-stepped : goal.returns-clause-stepped
 returns-clause-stepped c =

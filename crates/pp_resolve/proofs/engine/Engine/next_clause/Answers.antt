@@ -1,4 +1,4 @@
-use Rattle.std.proofs.Common.{◌≡◌, ◌<◌, ℕ, length, ap, ◌∙◌, subst, arith}
+use Rattle.std.proofs.Common.{length, ap, ◌∙◌, arith}
 use Rattle.std.proofs.lemmas.Option.{slice_get_within}
 use Rattle.pp_algebra.specs.Terms.{put_all}
 use Rattle.pp_sld.specs.Goals.{put_goal}
@@ -6,14 +6,12 @@ use Rattle.pp_term.specs.Meanings.{predicate_of, program}
 use Rattle.pp_clause.specs.Firsts.{first_of}
 use Rattle.pp_unify.specs.States.{value_in}
 use Rattle.pp_unify.specs.Forests.{counted_all}
-use Rattle.pp_walk.specs.Moves.{HasChoice, IsDeadAt}
 use Rattle.pp_resolve.specs.Standing.{counted}
-use Rattle.pp_resolve.specs.Acts.{placed}
-use Rattle.pp_resolve.specs.Engines.{goal_of, place_of, row_of}
+use Rattle.pp_resolve.specs.Engines.{goal_of, row_of}
 use Rattle.pp_resolve.specs.Selected.{all_goals}
 use Rattle.pp_resolve.proofs.Linked.{goal_there}
 use Rattle.pp_resolve.proofs.Overs.{among}
-use Rattle.pp_resolve.proofs.Peeking.{by_place, so_called, so_left_out}
+use Rattle.pp_resolve.proofs.Peeking.{so_called, so_left_out}
 use Rattle.pp_resolve.proofs.engine.Engine.next_clause.Goals as goal
 
 pub returns-then-from-count_at : goal.returns-then-from-count_at
@@ -30,68 +28,17 @@ goal-goal-requires-clause-over c g at =
     let s = c.requires.selected.stands g at in
     among (row_of e) (all_goals e) s.0 (put_goal (counted c.args.rest.first) g) s.1 e.columns.columns s.2 c.requires.good.here.over
 
--- the place is one of the choice's
-pub may_take-requires-clause-choice : goal.may_take-requires-clause-choice
-may_take-requires-clause-choice c =
-    let e = c.args.self.now in
-    let g = goal_there e.clauses.now (goal_of e) (length e.history.links.items) c.args.rest c.requires.selected.rest c.requires.selected.some in
-    let p = (c.requires.selected.looks g.0 g.1).0 in
-    let out = c.in-Some.ensures.place p.0 p.1 in
-    let n = so_called e c.requires.good (put_goal (counted c.args.rest.first) g.0) (c.requires.selected.stands g.0 g.1) (predicate_of p.0) p.2 c.requires.choice.0 c.requires.choice.1 in
-    (c.requires.choice.0, c.requires.choice.1, omega (arith, n, out.within))
+pub clause_from-requires-clause-first : goal.clause_from-requires-clause-first
+clause_from-requires-clause-first c g at = c.first_argument-first.ensures ∙ ap (λ ts. first_of (put_all (value_in (row_of c.args.self.now)) (counted_all c.args.rest.first ts))) (c.goal-goal.ensures.shown g at).arguments
 
-pub returns-then-may_take : goal.returns-then-may_take
-returns-then-may_take c =
-    let e = c.args.self.now in
-    let g = goal_there e.clauses.now (goal_of e) (length e.history.links.items) c.args.rest c.requires.selected.rest c.requires.selected.some in
-    let raw = put_goal (counted c.args.rest.first) g.0 in
-    let p = (c.requires.selected.looks g.0 g.1).0 in
-    let s = c.requires.selected.stands g.0 g.1 in
-    let top : c.first_argument-first.result ≡ first_of (placed (row_of e) raw).arguments = c.first_argument-first.ensures ∙ ap (λ ts. first_of (put_all (value_in (row_of e)) (counted_all c.args.rest.first ts))) (c.goal-goal.ensures.shown g.0 g.1).arguments in
-    let out = c.in-Some.ensures.place p.0 p.1 in
-    let n = so_called e c.requires.good raw s (predicate_of p.0) p.2 c.requires.choice.0 c.requires.choice.1 in
-    let later = out.later in
-    let there : (k : ℕ) → k < c.in-Some.place → HasChoice (program e.clauses.now) (place_of e).here k = λ k b. (c.requires.choice.0, c.requires.choice.1, omega (arith, n, out.within, b)) in (
-      omega (arith, c.loop-place.invariant.later, later),
-      (c.requires.choice.0, c.requires.choice.1, omega (arith, n, out.within)),
-      λ k a b. by_place (IsDeadAt (program e.clauses.now) (place_of e).here) c.loop-place.next k (λ h. c.loop-place.invariant.passed k a h (there k b)) (λ h. so_left_out e c.requires.good raw s (predicate_of p.0) p.2 c.first_argument-first.result top k (there k b) (λ cl at. out.passed k cl h b at)),
-    )
-
-pub loop-place-smaller : goal.loop-place-smaller
-loop-place-smaller c =
-    let e = c.args.self.now in
-    let g = goal_there e.clauses.now (goal_of e) (length e.history.links.items) c.args.rest c.requires.selected.rest c.requires.selected.some in
-    let p = (c.requires.selected.looks g.0 g.1).0 in
-    omega (arith, (c.in-Some.ensures.place p.0 p.1).later, c.in-Some.ensures.small)
-
-pub loop-place-preserved : goal.loop-place-preserved
-loop-place-preserved c =
-    let e = c.args.self.now in
-    let g = goal_there e.clauses.now (goal_of e) (length e.history.links.items) c.args.rest c.requires.selected.rest c.requires.selected.some in
-    let raw = put_goal (counted c.args.rest.first) g.0 in
-    let p = (c.requires.selected.looks g.0 g.1).0 in
-    let s = c.requires.selected.stands g.0 g.1 in
-    let top : c.first_argument-first.result ≡ first_of (placed (row_of e) raw).arguments = c.first_argument-first.ensures ∙ ap (λ ts. first_of (put_all (value_in (row_of e)) (counted_all c.args.rest.first ts))) (c.goal-goal.ensures.shown g.0 g.1).arguments in
-    let out = c.in-Some.ensures.place p.0 p.1 in
-    let later = out.later in
-    let dead = IsDeadAt (program e.clauses.now) (place_of e).here in
-    let here : dead c.in-Some.place = c.may_take.ensures c.if-may_take.false in
-    record {
-      later = omega (arith, c.loop-place.invariant.later, later);
-      passed = λ k a b h. by_place dead c.loop-place.next k (λ l. c.loop-place.invariant.passed k a l h)
-          (λ l. by_place dead c.in-Some.place k (λ m. so_left_out e c.requires.good raw s (predicate_of p.0) p.2 c.first_argument-first.result top k h (λ cl at. out.passed k cl l m at))
-          (λ m. let same : c.in-Some.place ≡ k = omega (arith, m, b) in subst dead same here));
-    }
-
-pub returns : goal.returns
-returns c k a h =
+pub returns-then-is_end : goal.returns-then-is_end
+returns-then-is_end c =
     let e = c.args.self.now in
     let g = goal_there e.clauses.now (goal_of e) (length e.history.links.items) c.args.rest c.requires.selected.rest c.requires.selected.some in
     let raw = put_goal (counted c.args.rest.first) g.0 in
     let p = (c.requires.selected.looks g.0 g.1).0 in
     let s = c.requires.selected.stands g.0 g.1 in
     let cs = program e.clauses.now (predicate_of p.0) in
-    let top : c.first_argument-first.result ≡ first_of (placed (row_of e) raw).arguments = c.first_argument-first.ensures ∙ ap (λ ts. first_of (put_all (value_in (row_of e)) (counted_all c.args.rest.first ts))) (c.goal-goal.ensures.shown g.0 g.1).arguments in
-    let out = c.in_default.ensures.place p.0 p.1 in
-    by_place (IsDeadAt (program e.clauses.now) (place_of e).here) c.loop-place.next k (λ l. c.loop-place.invariant.passed k a l h)
-    (λ l. so_left_out e c.requires.good raw s (predicate_of p.0) p.2 c.first_argument-first.result top k h (λ cl at. out k cl l (slice_get_within cs k cl at) at))
+    let top = c.first_argument-first.ensures ∙ ap (λ ts. first_of (put_all (value_in (row_of e)) (counted_all c.args.rest.first ts))) (c.goal-goal.ensures.shown g.0 g.1).arguments in
+    let out = c.is_end.ensures c.if-is_end.true p.0 p.1 in
+    (c.in-Some.ensures.next, λ k a h. so_left_out e c.requires.good raw s (predicate_of p.0) p.2 c.first_argument-first.result top k h (λ cl at. out k cl a (slice_get_within cs k cl at) at))

@@ -1,13 +1,6 @@
-use Rattle.std.specs.Prelude.{is_ok}
 use Rattle.std.proofs.Common.{sym, subst, All}
 use Rattle.pp_unify.specs.States.{present, IsOver}
-use Rattle.pp_search_tests.proofs.Pushed.{all_pushed}
 use Rattle.pp_search_tests.proofs.tests.solving.resolved.Goals as goal
 
-pub loop-cells-preserved : goal.loop-cells-preserved
-loop-cells-preserved g c =
-    let r = present c.args.bindings.now in
-    subst (All (IsOver r)) (sym c.push.ensures.items) (all_pushed (IsOver r) (is_ok c.push.result) c.loop-cells.terms.items c.own.result c.loop-cells.invariant c.own.ensures)
-
 pub resolve_row-requires : goal.resolve_row-requires
-resolve_row-requires g c = record { over = subst (All (IsOver (present c.args.bindings.now))) (sym c.as_slice.ensures.value) c.loop-cells.invariant }
+resolve_row-requires g c = record { over = subst (All (IsOver (present c.args.bindings.now))) (sym c.as_slice.ensures.value) c.listed-terms.ensures }

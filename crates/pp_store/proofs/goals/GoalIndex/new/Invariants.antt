@@ -1,6 +1,7 @@
 use Rattle.std.proofs.Common.{◌≡◌, ◌++◌, map, drop}
 use Rattle.pp_propagation.specs.Stores.{goals_of}
-use Rattle.pp_store.specs.Queries.{asked_by, goals_in, item_of}
+use Rattle.pp_query.specs.Meanings.{item_of}
+use Rattle.pp_store.specs.Queries.{asked_by, goals_in}
 use Rattle.pp_store.proofs.Candidates.{AreListed}
 use Rattle.pp_store.proofs.goals.GoalIndex.new.Given as goal
 

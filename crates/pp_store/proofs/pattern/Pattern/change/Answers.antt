@@ -1,13 +1,12 @@
-use Rattle.std.proofs.Common.{◌≡◌, ◌<◌, ◌≤◌, length, map, get_or, pos, arith, refl, sym, ap, ◌∙◌, subst}
+use Rattle.std.proofs.Common.{◌≡◌, ◌<◌, length, map, get_or, arith, refl, sym, ap, ◌∙◌, subst}
 use Rattle.std.specs.Prelude.{nat_eq}
 use Rattle.std.proofs.Math.ListN.{length-map}
 use Rattle.pp_algebra.specs.Canon.{Distinct}
 use Rattle.pp_algebra.specs.Covers.{IsIn}
-use Rattle.pp_algebra.specs.Terms.{int, variable, count, put, variables_all}
+use Rattle.pp_algebra.specs.Terms.{variable, count, put, variables_all}
 use Rattle.pp_row.specs.Columns.{trees_of, sets_of, set_by}
-use Rattle.pp_row.specs.Substitution.{term_at}
 use Rattle.pp_store.specs.Occurring.{AreGathered}
-use Rattle.pp_store.specs.Patterns.{column_at, names_at, under_numbers, IsChange, IsMeant}
+use Rattle.pp_store.specs.Patterns.{column_at, names_at, IsChange, IsMeant}
 use Rattle.pp_store.specs.Replacing.{replacement}
 use Rattle.pp_store.proofs.Applying.{goal_with}
 use Rattle.pp_store.proofs.Lists.{in_has, in_get}

@@ -1,4 +1,4 @@
-use Rattle.std.proofs.Common.{◌≡◌, ◌<◌, ◌≤◌, [], length, map, get_or, arith, refl, sym, ap, ◌∙◌, subst, inl, inr}
+use Rattle.std.proofs.Common.{◌<◌, [], length, map, get_or, arith, sym, ap, ◌∙◌, subst, inl, inr}
 use Rattle.pp_algebra.specs.Covers.{IsIn}
 use Rattle.pp_propagation.specs.Stores.{Asked, face, apply}
 use Rattle.pp_propagation.specs.Turns.{woken}
@@ -6,7 +6,7 @@ use Rattle.std.specs.Prelude.{filter}
 use Rattle.pp_store.specs.Changing.{face_at, differs}
 use Rattle.pp_store.specs.Kept.{Kept}
 use Rattle.pp_store.specs.Naming.{AreCandidates}
-use Rattle.pp_store.specs.Patterns.{row_in, IsSound}
+use Rattle.pp_store.specs.Patterns.{row_in}
 use Rattle.pp_store.specs.Queries.{asked_by, goals_in}
 use Rattle.pp_store.proofs.Lists.{in_get}
 use Rattle.pp_store.proofs.Making.{row_after, sound_after, woken_now}
