@@ -1,5 +1,5 @@
 -- A walker comes to the beginning of a work.
-use Rattle.std.proofs.Common.{◌≡◌, ◌≢◌, ◌↔◌, ℕ, suc, ◌+◌, ◌-◌, ◌<◌, ◌≤◌, arith, Bool, true, false, IsTrue, List, [], ◌∷◌, ◌++◌, map, length, take, Option, Some, None, refl, ap, sym, ◌∙◌, subst, inl, inr, ◌⊎◌, append-nil, length-append}
+use Rattle.std.proofs.Common.{◌≡◌, ◌≢◌, ◌↔◌, ℕ, suc, ◌+◌, ◌-◌, ◌<◌, ◌≤◌, arith, Bool, false, IsTrue, List, [], ◌∷◌, ◌++◌, map, length, take, Option, Some, None, refl, ap, sym, ◌∙◌, subst, inl, inr, ◌⊎◌, append-nil, length-append}
 use Rattle.pp_algebra.specs.Rows.{Row}
 use Rattle.pp_sld.specs.Goals.{Program, Config}
 use Rattle.pp_sld.specs.Trace.{Leaf}
@@ -19,12 +19,12 @@ use Rattle.pp_walk.specs.Moves.{IsAtChoice}
 use Rattle.pp_path.specs.declared.levels.Level.{Level as CodeLevel}
 use Rattle.pp_path.specs.Works.{level_by, work_by, levels_of}
 use Rattle.pp_explore.specs.declared.stage.Stage.{Stage}
-use Rattle.pp_explore.specs.declared.stage.Stage.TheVariants.{Enter, Try}
+use Rattle.pp_explore.specs.declared.stage.Stage.TheVariants.{Try}
 use Rattle.pp_explore.specs.Standing.{StaysOver, MissesOver, nows}
 use Rattle.pp_explore.specs.Exploring.{IsUnderCall, HasExplored, HasGathered}
 use Rattle.pp_explore.specs.Searching.{state, FitsWork, Keeps, PathIs, Arrives, IsAbove, IsReady, HasSearched, places_left, levels_left}
 use Rattle.pp_explore.proofs.Levels.{moves_on, ends_with, front_of, map-levels-append, nows-append, sibling_is_before}
-use Rattle.pp_explore.proofs.Turns.{moved_to, keeps_same, keeps_end, next_later}
+use Rattle.pp_explore.proofs.Turns.{moved_to, keeps_end, next_later}
 
 -- ===== the levels of the code
 
@@ -46,9 +46,6 @@ next_has_level clauses u w e n = next_deep u w e n clauses
 pub spent_of : (b : Bool) (w : Option (List CodeLevel)) → (IsTrue b ↔ (w ≢ None)) → b ≡ false → work_by w ≡ spent
 spent_of b None h e = refl
 spent_of b (Some ls) h e = absurd (cc (e, h.1 (λ k. (cc))))
-
-pub open_of : (b : Bool) (w : Option (List CodeLevel)) → (IsTrue b ↔ (w ≢ None)) → b ≡ true → w ≡ None → ⊥
-open_of b w h e = h.0 e
 
 pub at_of : (w : Option (List CodeLevel)) → (w ≡ None → ⊥) → work_by w ≡ at (map level_by (levels_of w))
 at_of None n = absurd (n refl)
@@ -124,9 +121,6 @@ module _ (clauses : Program) where
 
     -- ===== what a walker arrives at
 
-    pub arrives_entering : (w : Option (List CodeLevel)) (q : Place) (js : List ℕ) → (w ≡ None → ⊥) → js ≡ nows (levels_of w) → Arrives clauses p ks (work_by w) (Some Enter) q js (work_by w)
-    arrives_entering w q js n e = ((map level_by (levels_of w), at_of w n, e), keeps_same clauses p ks (work_by w), λ task i. inl i)
-
     pub arrives_trying : (u w : Work) (v : Option (List CodeLevel)) (q : Place) (js : List ℕ) → (v ≡ None → ⊥) → works.next w ≡ work_by v → Keeps clauses p ks u [] (w ∷ []) → PathIs clauses p ks w [] → (w ≡ u) ⊎ IsLater w u
         → IsAbove (map level_by (levels_of v)) js → IsAtChoice clauses q.here → Arrives clauses p ks u (Some (Try 0)) q js (work_by v)
     arrives_trying u w v q js n e h i l a b = (
@@ -150,9 +144,6 @@ module _ (clauses : Program) where
     -- ===== the whole search of a task
 
     module _ (m : Mode) (call : Row) where
-      pub task_alone : (w : Work) (f : Finding) → HasGathered clauses m p ks w f (w ∷ []) f
-      task_alone w f = ([], refl, λ root s t h. walk_begins t w)
-
       explored : (w : Work) (ms : List Leaf) (rest : List Work) → Keeps clauses p ks w ms rest → HasExplored clauses p ks w ms rest
       explored w ms rest h root s t i = subst (λ x. HasWalked x w ms rest) (tree_is clauses root t i) (h root s w [] (walk_begins (tree clauses root) w))
 

@@ -17,7 +17,6 @@ use Rattle.pp_explore.specs.Standing.{StaysOver}
 use Rattle.pp_explore.specs.Exploring.{add_leaves}
 use Rattle.pp_explore.specs.Searching.{State, Keeps, HasSearched}
 use Rattle.pp_explore.proofs.Added.{add_leaves-append}
-use Rattle.pp_explore.proofs.Turns.{keeps_same}
 
 -- ===== what is left is split
 
@@ -55,9 +54,6 @@ both_later ws a b task e h = subst (All (λ w. IsLater (work_by w) task)) (sym e
     at_each (suc (suc k)) d lt = absurd (omega (arith, lt))
 
 module _ (clauses : Program) (m : Mode) where
-  pub searched_nothing : (old : State) → HasSearched clauses m old (old.work ∷ []) old.finding
-  searched_nothing old = ([], refl, keeps_same clauses old.place old.path old.work)
-
   -- what leads on from where a search stands
   pub searched_more : (old : State) (p : Place) (ks : List ℕ) (w : Work) (f g : Finding) (ms : List Leaf) (rest : List Work) → StaysOver clauses old.place old.path p ks → HasSearched clauses m old (w ∷ []) f → g ≡ add_leaves m ms f → Keeps clauses p ks w ms rest → HasSearched clauses m old rest g
   searched_more old p ks w f g ms rest o h e k = (

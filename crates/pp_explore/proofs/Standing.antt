@@ -2,14 +2,13 @@
 use Rattle.std.proofs.Common.{◌≡◌, ℕ, zero, suc, ◌-◌, ◌<◌, ◌≤◌, arith, Bool, true, false, List, [], ◌∷◌, ◌++◌, length, reverse, take, drop, length-drop, Option, Some, None, IsSome, option_to_list, Result, Ok, Err, IfOk, OnErr, refl, ap, sym, ◌∙◌, subst, inl, inr}
 use Rattle.std.specs.List.{slice_get}
 use Rattle.std.proofs.lemmas.List.{reverse-reverse, length-reverse, take-append-le}
-use Rattle.pp_algebra.specs.Rows.{Row}
 use Rattle.pp_sld.specs.Goals.{Program, Config}
 use Rattle.pp_sld.specs.Ways.{Way}
 use Rattle.pp_sld.specs.Reach.{Stands, Misses}
-use Rattle.pp_sld.proofs.Standing.{stands_root, stands_went, stands_chose, misses_dead, misses_place, misses_end}
+use Rattle.pp_sld.proofs.Standing.{stands_went, stands_chose, misses_dead, misses_place, misses_end}
 use Rattle.pp_walk.specs.Places.{Place}
 use Rattle.pp_walk.specs.Moves.{Stepped, IsAtChoice, HasChoice, IsDeadAt, Chose, WentBack}
-use Rattle.pp_walk.specs.declared.event.Event.TheVariants.{Went, Choice, Failed, Answer, Loose}
+use Rattle.pp_walk.specs.declared.event.Event.TheVariants.{Went}
 use Rattle.pp_explore.specs.Standing.{AreAbove, StandsOver, StaysOver, MissesOver, back_by, Took, Comes}
 use Rattle.pp_explore.proofs.Levels.{reverse-snoc, length-snoc}
 
@@ -51,22 +50,6 @@ pub back_there : (depth : ℕ) (p : Place) (ks : List ℕ) → length ks ≤ dep
 back_there depth p ks h = let none : length ks - depth ≡ 0 = omega (arith, h) in (take-all depth ks h, ap (λ x. back_by x p.above p.here) none)
 
 module _ (clauses : Program) where
-  -- a choice comes, or the branch ends
-  pub comes_choice : (p q : Place) (n : ℕ) → Stepped clauses p (Choice n) q → Comes clauses q.here (Some n)
-  comes_choice p q n h = subst (λ (x : Place). Comes clauses x.here (Some n)) (sym h.4) (h.0, h.1, h.2)
-
-  pub comes_failed : (p q : Place) → Stepped clauses p Failed q → Comes clauses q.here None
-  comes_failed p q h = subst (λ (x : Place). Comes clauses x.here None) (sym h.1) (elim h.0 [
-    | inl e ↦ inr (inr (inr (inl e)))
-    | inr k ↦ elim k [ inl e ↦ inl e | inr d ↦ inr (inr (inr (inr d))) ]
-  ])
-
-  pub comes_answer : (p q : Place) → Stepped clauses p Answer q → Comes clauses q.here None
-  comes_answer p q h = subst (λ (x : Place). Comes clauses x.here None) (sym h.1) (inr (inl h.0))
-
-  pub comes_loose : (p q : Place) → Stepped clauses p Loose q → Comes clauses q.here None
-  comes_loose p q h = subst (λ (x : Place). Comes clauses x.here None) (sym h.1) (inr (inr (inl h.0)))
-
   pub slice_none : (ws : List Way) (k : ℕ) → length ws ≤ k → slice_get ws k ≡ None
   slice_none [] zero h = refl
   slice_none [] (suc k) h = refl
@@ -87,10 +70,6 @@ module _ (clauses : Program) where
 
     pub length-over : (p : Place) (ks : List ℕ) → StandsOver clauses root p ks → length p.above ≡ length ks
     length-over p ks h = length-above p.above (reverse ks) h.1 ∙ length-reverse ks
-
-    -- at the root
-    pub over_root : (p : Place) → p.above ≡ [] → p.here ≡ root → StandsOver clauses root p []
-    over_root p a e = (subst (Stands clauses root []) (sym e) (stands_root clauses root), subst (λ x. AreAbove clauses root x []) (sym a) tt)
 
     -- past a built-in
     pub over_went : (p q : Place) (ks : List ℕ) → Stepped clauses p Went q → StandsOver clauses root p ks → StandsOver clauses root q ks

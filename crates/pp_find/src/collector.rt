@@ -49,7 +49,9 @@ impl Collector {
         Collector { findings, known }
     }
 
-    /// One answer more. Of one that an answer before it covers nothing is kept.
+    /// One answer more. A row that `answer_cover` covers is to be left out by the caller first: with `most` it isn't
+    /// tested against that one again, but joined, which changes nothing. Of a row that another one covers nothing is
+    /// kept.
     pub fn add_answer(&mut self, row: Row) -> Result<(), AllocError>
         requires under { RowCovers self.old.call row }
         ensures mode { self.new.mode ≡ self.old.mode }
@@ -61,7 +63,9 @@ impl Collector {
         known.add_answer(findings, row)
     }
 
-    /// One loose end more. Of one that an answer or loose end before it covers nothing is kept.
+    /// One loose end more. A row that `loose_cover` covers is to be left out by the caller first: with `most` it isn't
+    /// tested against that one again, but joined, which changes nothing. Of a row that another one covers nothing is
+    /// kept.
     pub fn add_loose(&mut self, row: Row) -> Result<(), AllocError>
         requires under { RowCovers self.old.call row }
         ensures mode { self.new.mode ≡ self.old.mode }

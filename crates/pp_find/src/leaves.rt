@@ -71,7 +71,8 @@ impl Leaves {
         Ok(())
     }
 
-    /// One answer more. Where an answer so far covers it, that costs a cover test for each row that is kept.
+    /// One answer more. A row that `answer_cover` covers is to be left out by the caller first: it isn't tested against
+    /// that one again, but joined, which changes nothing.
     pub(crate) fn add_answer(
         &mut self,
         alloc: Global,
@@ -86,7 +87,7 @@ impl Leaves {
         ensures loose { self.new.loose.items ≡ self.old.loose.items }
     {
         let _canonical = row.columns();
-        if any_covers(alloc, self.answers.as_slice(), &row)? {
+        if any_covers(alloc, self.answers.as_slice(), 1, &row)? {
             return Ok(());
         }
         if self.is_bounded(alloc, call, &row)? {
@@ -96,7 +97,8 @@ impl Leaves {
         self.weigh(alloc, call, row)
     }
 
-    /// One loose end more.
+    /// One loose end more. A row that `loose_cover` covers is to be left out by the caller first: it isn't tested against
+    /// that one again, but joined, which changes nothing.
     pub(crate) fn add_loose(
         &mut self,
         alloc: Global,
@@ -111,10 +113,11 @@ impl Leaves {
         ensures err { OnErr result (common self.new.loose.items ≡ common self.old.loose.items) }
     {
         let _canonical = row.columns();
-        if any_covers(alloc, self.answers.as_slice(), &row)? {
+        if any_covers(alloc, self.answers.as_slice(), 1, &row)? {
             return Ok(());
         }
-        if any_covers(alloc, self.loose.as_slice(), &row)? {
+        let from = usize::from(self.answers.is_empty());
+        if any_covers(alloc, self.loose.as_slice(), from, &row)? {
             return Ok(());
         }
         add_row(alloc, &mut self.loose, row)

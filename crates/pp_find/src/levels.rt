@@ -28,12 +28,17 @@ pub(crate) fn is_small(row: &Row) -> bool {
     weight(row) < SMALL
 }
 
-/// Whether one of the rows covers this one, which then adds nothing to what they have in common.
-pub(crate) fn any_covers(alloc: Global, rows: &[Row], row: &Row) -> Result<bool, AllocError>
+/// Whether one of the rows from this place on covers this one, which then adds nothing to what all have in common.
+pub(crate) fn any_covers(
+    alloc: Global,
+    rows: &[Row],
+    from: usize,
+    row: &Row,
+) -> Result<bool, AllocError>
     requires under { AreUnderOne (row.now ∷ rows.now) }
     ensures { IfOk result (λ is. IsTrue is → common rows.now ≡ join_option (common rows.now) (Some row.now)) }
 {
-    for i in 0..rows.len() {
+    for i in from..rows.len() {
         if covers(alloc, &rows[i], row)? {
             return Ok(true);
         }

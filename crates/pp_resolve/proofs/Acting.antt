@@ -1,5 +1,6 @@
 -- What is done with a goal that is lent.
-use Rattle.std.proofs.Common.{◌≡◌, ℕ, Bool, List, map, Some, refl, ap, sym, ◌∙◌, subst}
+use Rattle.std.proofs.Common.{◌≡◌, ℕ, Bool, List, map, All, Some, refl, ap, sym, ◌∙◌, subst}
+use Rattle.std.proofs.lemmas.List.Elements.{All-nil}
 use Rattle.pp_algebra.specs.Terms.{Trees, put_all, count}
 use Rattle.pp_algebra.specs.Rows.{Row}
 use Rattle.pp_sld.specs.Goals as goals
@@ -12,8 +13,9 @@ use Rattle.pp_clause.specs.declared.goal_at.GoalAt.{GoalAt}
 use Rattle.pp_clause.specs.declared.goal_at.Kind.{Kind}
 use Rattle.pp_clause.specs.declared.goal_at.Kind.TheVariants as kinds
 use Rattle.pp_unify.specs.States.{value_in}
-use Rattle.pp_unify.specs.Laws.{item_in}
-use Rattle.pp_unify.specs.Forests.{counted_all, AreDecided}
+use Rattle.pp_unify.specs.Laws.{item_in, IsItemOver}
+use Rattle.pp_unify.specs.Forests.{counted_all, AreOver, AreDecided}
+use Rattle.pp_goal.proofs.Acting.{both_sides-over, first_in-over, at_place-over}
 use Rattle.pp_goal.specs.declared.acts.Act.{Act}
 use Rattle.pp_goal.specs.declared.acts.Act.TheVariants.{Wait, Fail, Hold, Equate, Narrow, Bind, Split, Call}
 use Rattle.pp_goal.specs.Arguments.{terms_of, terms_in}
@@ -37,6 +39,23 @@ same_items cs k s ts Narrow h = same_narrowed cs k s ts h
 same_items cs k s ts (Bind i n) h = refl
 same_items cs k s ts Split h = refl
 same_items cs k s ts (Call n) h = refl
+
+narrowed_by-over : (r : Row) (s : goals.Shape) (ts : Trees ℕ) → AreOver r ts → All (IsItemOver r) (narrowed_by s ts)
+narrowed_by-over r (goals.user p) ts h = All-nil (IsItemOver r)
+narrowed_by-over r goals.equals ts h = All-nil (IsItemOver r)
+narrowed_by-over r (goals.member d) ts h = first_in-over r d ts h
+narrowed_by-over r (goals.test t) ts h = All-nil (IsItemOver r)
+
+-- the items are over the row's variables
+pub items_by-over : (r : Row) (s : goals.Shape) (ts : Trees ℕ) (a : Act) → AreOver r ts → All (IsItemOver r) (items_by s ts a)
+items_by-over r s ts Wait h = All-nil (IsItemOver r)
+items_by-over r s ts Fail h = All-nil (IsItemOver r)
+items_by-over r s ts Hold h = All-nil (IsItemOver r)
+items_by-over r s ts Equate h = both_sides-over r ts h
+items_by-over r s ts Narrow h = narrowed_by-over r s ts h
+items_by-over r s ts (Bind i n) h = at_place-over r i n ts h
+items_by-over r s ts Split h = All-nil (IsItemOver r)
+items_by-over r s ts (Call n) h = All-nil (IsItemOver r)
 
 module _ (cs : List Clause) (r : Row) (g : Goal ℕ) (d : GoalAt) (first : ℕ) (s : IsShown cs g d) where
   abbrev raw : Goal ℕ

@@ -1,4 +1,4 @@
--- Items of a built-in that were solved on the bindings, with goals that were passed over before it.
+-- Items of a built-in that were solved on the bindings, with goals that wait before it.
 use Rattle.std.proofs.Common.{◌≡◌, ℕ, ◌<◌, ◌⊎◌, List, [], ◌∷◌, ◌++◌, length, map, All, refl, ◌∙◌}
 use Rattle.std.proofs.lemmas.List.{map-append}
 use Rattle.pp_algebra.specs.Terms.{Tree, Trees, put, put_all}

@@ -1,20 +1,20 @@
 -- An engine takes an alternative of the selected goal.
-use Rattle.std.proofs.Common.{◌≡◌, true≢false, inl, inr, ℕ, ℤ, zero, suc, ◌-◌, ◌^◌, ◌<◌, Bool, true, false, List, [], ◌∷◌, ◌++◌, length, map, take, drop, reverse, All, Option, Some, None, refl, ap, sym, ◌∙◌, subst, arith, append_assoc}
+use Rattle.std.proofs.Common.{◌≡◌, inl, inr, ℕ, ℤ, zero, suc, ◌-◌, ◌^◌, ◌<◌, ◌≤◌, Bool, true, false, List, [], ◌∷◌, ◌++◌, length, map, take, drop, reverse, All, Option, Some, None, refl, ap, sym, ◌∙◌, subst, arith, append_assoc}
 use Rattle.std.specs.List.{slice_get}
-use Rattle.std.specs.Option.{is_some}
-use Rattle.std.specs.Prelude.{not}
 use Rattle.std.proofs.lemmas.List.{take_all}
 use Rattle.std.proofs.lemmas.List.Elements.{All-head, All-tail}
+use Rattle.pp_algebra.specs.Members.{IsInteger}
 use Rattle.pp_algebra.specs.Terms.{Trees, none, put_all, variables_all, count}
 use Rattle.pp_algebra.specs.Rows.{Row, IsRow}
 use Rattle.pp_algebra.specs.Covers.{IsIn}
 use Rattle.pp_algebra.specs.Givens.{givens}
+use Rattle.pp_algebra.specs.Solve.{Item}
 use Rattle.pp_algebra.proofs.Antisym.{IsIn-either}
 use Rattle.pp_sld.specs.BuiltIns as built
 use Rattle.pp_sld.specs.Goals as goals
 use Rattle.pp_sld.specs.Goals.{Predicate, user, equals, member, test, put_goal, with_goals}
-use Rattle.pp_sld.specs.Selection.{calls, act_of, act_by}
-use Rattle.pp_sld.specs.Ways.{left_loose, next}
+use Rattle.pp_sld.specs.Selection.{calls, solves, splits, act_of, act_by}
+use Rattle.pp_sld.specs.Ways.{left_loose, one, next, values_of}
 use Rattle.pp_sld.specs.Reach.{Chosen}
 use Rattle.pp_term.specs.declared.pred.Pred.{Pred}
 use Rattle.pp_term.specs.declared.clause.Goal.{Goal}
@@ -28,40 +28,32 @@ use Rattle.pp_clause.specs.declared.goal_at.GoalAt.{GoalAt}
 use Rattle.pp_clause.specs.Predicates.{Names}
 use Rattle.pp_clause.specs.Places.{IsClauseAt}
 use Rattle.pp_unify.specs.States.{present, value_in, with_many, IsLonger}
-use Rattle.pp_unify.specs.Forests.{AreOver, AreDecided, pairs}
-use Rattle.pp_goal.specs.Arguments.{IsLent}
+use Rattle.pp_unify.specs.Forests.{AreOver, AreDecided, pairs, counted_all}
+use Rattle.pp_goal.specs.Arguments.{IsLent, terms_of, terms_in}
+use Rattle.pp_goal.specs.Acts.{IsReady}
+use Rattle.pp_goal.specs.declared.acts.Act.{Act}
 use Rattle.pp_goal.specs.declared.acts.Act.TheVariants as acts
 use Rattle.pp_walk.specs.Moves.{HasChoice, IsDeadAt}
 use Rattle.pp_walk.specs.Places.{Place}
 use Rattle.pp_resolve.specs.declared.history.Rest.{Rest}
 use Rattle.pp_resolve.specs.declared.history.Front.{Front}
+use Rattle.pp_resolve.specs.declared.history.Selected.{Selected}
 use Rattle.pp_resolve.specs.declared.engine.Engine.{Engine}
 use Rattle.pp_resolve.specs.Standing.{counted, config_in}
-use Rattle.pp_resolve.specs.Links.{goals_at, body_of, piece, below, goals_in, goals_of, IsFormedAt, IsRest}
+use Rattle.pp_resolve.specs.Kept.{kept_of}
+use Rattle.pp_resolve.specs.Links.{after_first, goals_at, body_of, piece, below, before, after, goals_in, goals_of, IsFormedAt, IsRest}
 use Rattle.pp_resolve.specs.Shown.{width_of, IsShown}
-use Rattle.pp_resolve.specs.Acts.{does}
+use Rattle.pp_resolve.specs.Acts.{does, values, ActsAs}
 use Rattle.pp_resolve.specs.Engines as engines
-use Rattle.pp_resolve.specs.Engines.{config_of, Stands, row_of, place_of, waiting, AllWait, IsKept, IsGood, IsGoalAt, Sees}
-use Rattle.pp_resolve.specs.Events.{follows, IsNext, Took}
-use Rattle.pp_resolve.proofs.Linked.{stepped, goal_there}
-use Rattle.pp_resolve.proofs.Waits.{waits_longer}
+use Rattle.pp_resolve.specs.Engines.{config_of, Stands, row_of, place_of, left, DoWait, AllWait, IsKept, IsGood, IsSamePlace, IsGoalAt, BeginsAt, IsMetIn, IsMet, IsLinkOf}
+use Rattle.pp_resolve.specs.Events.{follows, selected_as, without, Solved, IsNext, Took}
+use Rattle.pp_resolve.proofs.Linked.{goal_there}
 use Rattle.pp_resolve.proofs.Saved.{history_longer}
-use Rattle.pp_resolve.proofs.Moving.{first_over}
+use Rattle.pp_resolve.proofs.Moving.{carried, left_still, met_still, goal_over_at}
 use Rattle.pp_resolve.proofs.Showing.{shown_lent}
 use Rattle.pp_resolve.proofs.Following as so
-use Rattle.pp_resolve.proofs.Stepping.{over, here_is, at_spent, at_called, at_split, at_refused, at_end, at_stop}
-use Rattle.pp_resolve.specs.Engines.{IsSamePlace, IsKnown, left, IsLinkOf}
-use Rattle.pp_resolve.proofs.Moving.{carried, left_still}
-use Rattle.pp_sld.specs.Ways.{values_of}
-use Rattle.pp_sld.specs.Selection.{splits, at_place}
-use Rattle.pp_goal.specs.Arguments.{terms_of, terms_in}
-use Rattle.pp_resolve.specs.Acts.{values, ActsAs}
-use Rattle.pp_goal.specs.declared.acts.Act.{Act}
-use Rattle.pp_algebra.specs.Solve.{Item}
-use Rattle.pp_sld.specs.Selection.{solves}
-use Rattle.pp_sld.specs.Ways.{one}
-use Rattle.pp_unify.specs.Forests.{counted_all}
-use Rattle.pp_resolve.proofs.Linked.{stepped_rest}
+use Rattle.pp_resolve.proofs.Stepping.{begins_at, item_there, wait_ahead, over, here_is, at_spent, at_called, at_split, at_refused, at_end, at_stop}
+use Rattle.pp_resolve.proofs.Solving.{waits_later, suspended_later}
 
 -- ===== states that are longer
 
@@ -99,17 +91,6 @@ back_again p q r true h empty more =
     let above : r.above ≡ q.above = cc e in
     ap (λ x. let y : Place = record { above = x; here = r.here } in y) above ∙ ap (λ x. let y : Place = record { above = q.above; here = x } in y) here
 
--- ===== what is kept of the selected goal
-
-pub same_self : (e : Engine) → IsGood e → IsSamePlace e e
-same_self e g = record { good = g; search = record { clauses = refl; root = refl; columns = refl }; place = refl; bindings = refl }
-
-pub known_wait : (e : Engine) (a : Act) → IsGood e → e.front.selected ≡ Some a → AllWait e
-known_wait e a g s = (subst (IsKnown e.clauses.now (engines.goal_of e) (row_of e) e.history.links.items e.front) s g.here.known).0
-
-pub never_none : (s : Option Act) (b : Bool) → is_some s ≡ not b → b ≡ false → s ≡ None → ⊥
-never_none s b h f n = true≢false (sym (ap not f) ∙ sym h ∙ ap is_some n)
-
 -- ===== variables of bodies
 
 goal_below : (n : ℕ) (g : Goal) → IsGoal n g → (v : ℕ) → IsIn v (variables_all (goal_of g).arguments) → v < n
@@ -142,33 +123,36 @@ shape_called r ts (test t) p e = absurd (never_calls ts (built.decide t (givens 
 
 -- ===== a call
 
-module _ (e : Engine) (good : IsGood e) (wait : AllWait e) (n : ℕ) (sees : Sees e (Some (acts.Call n))) where
+module _ (e : Engine) (good : IsGood e) (n : ℕ) (met : IsMet e (selected_as None (acts.Call n))) where
   abbrev cs : List Clause
   cs = e.clauses.now
 
+  abbrev what : Selected
+  what = selected_as None (acts.Call n)
+
   abbrev there : (g : goals.Goal ℕ) × IsGoalAt e e.front.rest g
-  there = goal_there cs (engines.goal_of e) (length e.history.links.items) e.front.rest good.here.rest sees.0
+  there = goal_there cs (engines.goal_of e) (length e.history.links.items) e.front.rest good.here.rest met.there
 
   abbrev raw : goals.Goal ℕ
   raw = put_goal (counted e.front.rest.first) (there).0
 
   abbrev named : (p : Pred) × Names cs n p × (does (row_of e) raw ≡ Some (calls (predicate_of p)))
-  named = (sees.1 (there).0 (there).1).0
+  named = (met.looks e.front.rest refl (there).0 (there).1).0
 
   abbrev p : Pred
   p = (named).0
 
   pub call_lent : (d : GoalAt) → ((g : goals.Goal ℕ) → IsGoalAt e e.front.rest g → IsShown cs g d) → IsLent (row_of e) d e.front.rest.first
-  call_lent d shown = shown_lent cs (row_of e) (there).0 d e.front.rest.first (shown (there).0 (there).1) (first_over e good sees.0 (there).0 (there).1)
+  call_lent d shown = shown_lent cs (row_of e) (there).0 d e.front.rest.first (shown (there).0 (there).1) (goal_over_at e None e.front.rest (there).0 good met.there refl (there).1)
 
   module _ (place : ℕ) (choice : HasChoice (program cs) (place_of e).here place) where
     pub left_depth : (d : ℕ) × (e.front.depth ≡ suc d) × (place < length (program cs (predicate_of p)))
     left_depth = go e.front.depth refl
       where
         go : (k : ℕ) → e.front.depth ≡ k → (d : ℕ) × (e.front.depth ≡ suc d) × (place < length (program cs (predicate_of p)))
-        go zero z = absurd (cc (sym (at_spent e good wait sees.0 (there).0 (there).1 (predicate_of p) (named).2 z) ∙ choice.1))
+        go zero z = absurd (cc (sym (at_spent e good what met e.front.rest refl (there).0 (there).1 (predicate_of p) (named).2 z) ∙ choice.1))
         go (suc d) z =
-            let k = at_called e good wait sees.0 (there).0 (there).1 (predicate_of p) (named).2 d z in
+            let k = at_called e good what met e.front.rest refl (there).0 (there).1 (predicate_of p) (named).2 d z in
             let same : k.0 ≡ choice.0 = cc (sym k.1 ∙ choice.1) in
             (d, z, omega (arith, choice.2, ap length same, k.2))
 
@@ -199,11 +183,14 @@ module _ (e : Engine) (good : IsGood e) (wait : AllWait e) (n : ℕ) (sees : See
 
       module _ (d : GoalAt) (shown : (g : goals.Goal ℕ) → IsGoalAt e e.front.rest g → IsShown cs g d) (q : Row) (b : Bool)
           (entered : (x : Clause) → slice_get cs number ≡ Some x → AreDecided (with_many (row_of e) x.vars) (pairs (count (row_of e).columns) (trees_of x.head) e.front.rest.first (forest d.arguments.now)) b q) where
-        abbrev before : List (goals.Goal ℕ)
-        before = waiting e e.front.passed
+        abbrev ahead : List (goals.Goal ℕ)
+        ahead = before cs (engines.goal_of e) (kept_of e.history) None
 
-        abbrev after : List (goals.Goal ℕ)
-        after = goals_in cs (engines.goal_of e) e.history.links.items (stepped e.front.rest)
+        abbrev behind : List (goals.Goal ℕ)
+        behind = after cs (engines.goal_of e) (kept_of e.history) e.front None
+
+        abbrev wait : DoWait (row_of e) ahead
+        wait = wait_ahead e good what met e.front.rest refl (there).0 (there).1
 
         abbrev cl : goals.Clause
         cl = (clause_of c).1
@@ -211,16 +198,16 @@ module _ (e : Engine) (good : IsGood e) (wait : AllWait e) (n : ℕ) (sees : See
         decided : AreDecided (with_many (row_of e) c.vars) (pairs (count (row_of e).columns) (trees_of c.head) e.front.rest.first (there).0.arguments) b q
         decided = subst (λ ts. AreDecided (with_many (row_of e) c.vars) (pairs (count (row_of e).columns) (trees_of c.head) e.front.rest.first ts) b q) (shown (there).0 (there).1).arguments (entered c (at).at)
 
-        abbrev o : AreOver (row_of e) (with_goals (before ++ raw ∷ after) e.columns.columns)
-        o = over e good wait sees.0 (there).0 (there).1
+        abbrev o : AreOver (row_of e) (with_goals (ahead ++ raw ∷ behind) e.columns.columns)
+        o = over e good what met e.front.rest refl (there).0 (there).1
 
-        abbrev same : config_in (row_of e) (before ++ raw ∷ after) e.columns.columns e.front.depth ≡ (place_of e).here
-        same = here_is e good wait sees.0 (there).0 (there).1
+        abbrev same : config_in (row_of e) (ahead ++ raw ∷ behind) e.columns.columns e.front.depth ≡ (place_of e).here
+        same = here_is e good what met e.front.rest refl (there).0 (there).1
 
         pub call_fails : b ≡ false → IsDeadAt (program cs) (place_of e).here place
         call_fails f =
             subst (λ x. IsDeadAt (program cs) x place) same
-            (so.call_failed (program cs) (row_of e) good.here.row before raw after e.columns.columns e.front.depth o wait (predicate_of p) (named).2 (left_depth).0 (left_depth).1 place cl (at).nth c.vars (at).formed.head.below (body_below c.vars c.body (at).formed.body) q
+            (so.call_failed (program cs) (row_of e) good.here.row ahead raw behind e.columns.columns e.front.depth o wait (predicate_of p) (named).2 (left_depth).0 (left_depth).1 place cl (at).nth c.vars (at).formed.head.below (body_below c.vars c.body (at).formed.body) q
             (subst (λ x. AreDecided (with_many (row_of e) c.vars) (pairs (count (row_of e).columns) (trees_of c.head) e.front.rest.first (there).0.arguments) x q) f decided))
 
         module _ (t : b ≡ true) (first to nx : ℕ) (is_first : first ≡ count (row_of e).columns) (is_to : (x : Clause) → slice_get cs number ≡ Some x → to ≡ length x.body) (small : to < 2 ^ 32) (linked : IsNext e nx) where
@@ -228,7 +215,7 @@ module _ (e : Engine) (good : IsGood e) (wait : AllWait e) (n : ℕ) (sees : See
           rest = record { body = Some number; from = 0; to = to; first = first; next = nx }
 
           abbrev front : Front
-          front = record { passed = e.front.passed; waits = e.front.waits; rest = rest; depth = e.front.depth - 1; selected = None }
+          front = record { waiting = e.front.waiting; waits = e.front.waits; rest = rest; depth = e.front.depth - 1; selected = None }
 
           solved : AreDecided (with_many (row_of e) c.vars) (pairs (count (row_of e).columns) (trees_of c.head) e.front.rest.first (there).0.arguments) true q
           solved = subst (λ x. AreDecided (with_many (row_of e) c.vars) (pairs (count (row_of e).columns) (trees_of c.head) e.front.rest.first (there).0.arguments) x q) t decided
@@ -248,51 +235,61 @@ module _ (e : Engine) (good : IsGood e) (wait : AllWait e) (n : ℕ) (sees : See
               ∙ ap (map (put_goal (counted first))) (take_all to (map goal_of c.body) (omega (arith, mapped c.body, is_to c (at).at)))
               ∙ ap (λ k. map (put_goal (counted k)) (map goal_of c.body)) is_first
 
-          abbrev ahead : List (goals.Goal ℕ)
-          ahead = before ++ map (put_goal (counted (count (row_of e).columns))) (map goal_of c.body) ++ after
+          abbrev all : List (goals.Goal ℕ)
+          all = ahead ++ map (put_goal (counted (count (row_of e).columns))) (map goal_of c.body) ++ behind
 
-          goals_are : goals_of cs (engines.goal_of e) e.history.links.items front ≡ ahead
+          goals_are : goals_of cs (engines.goal_of e) (kept_of e.history) front ≡ all
           goals_are =
-              ap (λ gs. before ++ (gs ++ below cs (engines.goal_of e) (reverse e.history.links.items) nx)) piece_is
-              ∙ ap (λ gs. before ++ (map (put_goal (counted (count (row_of e).columns))) (map goal_of c.body) ++ gs)) linked.0
-              ∙ sym (append_assoc before (map (put_goal (counted (count (row_of e).columns))) (map goal_of c.body)) after)
+              ap (λ gs. ahead ++ (gs ++ below cs (engines.goal_of e) (reverse e.history.links.items) nx)) piece_is
+              ∙ ap (λ gs. ahead ++ (map (put_goal (counted (count (row_of e).columns))) (map goal_of c.body) ++ gs)) linked.0
+              ∙ sym (append_assoc ahead (map (put_goal (counted (count (row_of e).columns))) (map goal_of c.body)) behind)
 
           less : (left_depth).0 ≡ e.front.depth - 1
           less = let z = (left_depth).1 in omega (arith, z)
 
-          there_is : config_in q ahead e.columns.columns (left_depth).0 ≡ config_in q (goals_of cs (engines.goal_of e) e.history.links.items front) e.columns.columns (e.front.depth - 1)
-          there_is = ap (λ gs. config_in q gs e.columns.columns (left_depth).0) (sym goals_are) ∙ ap (config_in q (goals_of cs (engines.goal_of e) e.history.links.items front) e.columns.columns) less
+          there_is : config_in q all e.columns.columns (left_depth).0 ≡ config_in q (goals_of cs (engines.goal_of e) (kept_of e.history) front) e.columns.columns (e.front.depth - 1)
+          there_is = ap (λ gs. config_in q gs e.columns.columns (left_depth).0) (sym goals_are) ∙ ap (config_in q (goals_of cs (engines.goal_of e) (kept_of e.history) front) e.columns.columns) less
 
-          pub call_takes : Chosen (program cs) (place_of e).here place (config_in q (goals_of cs (engines.goal_of e) e.history.links.items front) e.columns.columns (e.front.depth - 1))
+          pub call_takes : Chosen (program cs) (place_of e).here place (config_in q (goals_of cs (engines.goal_of e) (kept_of e.history) front) e.columns.columns (e.front.depth - 1))
           call_takes =
               subst (Chosen (program cs) (place_of e).here place) there_is
-              (subst (λ x. Chosen (program cs) x place (config_in q ahead e.columns.columns (left_depth).0)) same
-              (so.call_chosen (program cs) (row_of e) good.here.row before raw after e.columns.columns e.front.depth o wait (predicate_of p) (named).2 (left_depth).0 (left_depth).1 place cl (at).nth c.vars (at).formed.head.below (body_below c.vars c.body (at).formed.body) q solved))
+              (subst (λ x. Chosen (program cs) x place (config_in q all e.columns.columns (left_depth).0)) same
+              (so.call_chosen (program cs) (row_of e) good.here.row ahead raw behind e.columns.columns e.front.depth o wait (predicate_of p) (named).2 (left_depth).0 (left_depth).1 place cl (at).nth c.vars (at).formed.head.below (body_below c.vars c.body (at).formed.body) q solved))
+
+          more : count (row_of e).columns ≤ count q.columns
+          more = so.call_count (program cs) (row_of e) good.here.row ahead raw behind e.columns.columns e.front.depth o wait (predicate_of p) (named).2 (left_depth).0 (left_depth).1 place cl (at).nth c.vars (at).formed.head.below (body_below c.vars c.body (at).formed.body) q solved
 
           pub call_good : (rs : List Row) → present rs ≡ q → IsLonger e.history.bindings rs → IsGood (record { clauses = e.clauses; root = e.root; columns = e.columns; history = record e.history { bindings = rs }; front = front })
           call_good rs pr l = record {
             ready = kept_longer e rs front good.ready l;
             here = record {
-              row = subst IsRow (sym pr) (so.call_row (program cs) (row_of e) good.here.row before raw after e.columns.columns e.front.depth o wait (predicate_of p) (named).2 (left_depth).0 (left_depth).1 place cl (at).nth c.vars (at).formed.head.below (body_below c.vars c.body (at).formed.body) q solved);
-              over = subst (λ x. AreOver x (with_goals (goals_of cs (engines.goal_of e) e.history.links.items front) e.columns.columns)) (sym pr) (subst (λ gs. AreOver q (with_goals gs e.columns.columns)) (sym goals_are)
-                  (so.call_over (program cs) (row_of e) good.here.row before raw after e.columns.columns e.front.depth o wait (predicate_of p) (named).2 (left_depth).0 (left_depth).1 place cl (at).nth c.vars (at).formed.head.below (body_below c.vars c.body (at).formed.body) q solved));
+              row = subst IsRow (sym pr) (so.call_row (program cs) (row_of e) good.here.row ahead raw behind e.columns.columns e.front.depth o wait (predicate_of p) (named).2 (left_depth).0 (left_depth).1 place cl (at).nth c.vars (at).formed.head.below (body_below c.vars c.body (at).formed.body) q solved);
+              over = subst (λ x. AreOver x (with_goals (goals_of cs (engines.goal_of e) (kept_of e.history) front) e.columns.columns)) (sym pr) (subst (λ gs. AreOver q (with_goals gs e.columns.columns)) (sym goals_are)
+                  (so.call_over (program cs) (row_of e) good.here.row ahead raw behind e.columns.columns e.front.depth o wait (predicate_of p) (named).2 (left_depth).0 (left_depth).1 place cl (at).nth c.vars (at).formed.head.below (body_below c.vars c.body (at).formed.body) q solved));
               rest = record { formed = subst IsFormedAt (sym (at).at) (at).formed; from = omega arith; to = omega (arith, ap length body_is, mapped c.body, is_to c (at).at); next = linked.1; small = small };
-              passed = good.here.passed;
               links = good.here.links;
-              waits = waits_longer cs (engines.goal_of e) e.history.bindings rs e.history.links.items e.front.passed e.front.waits l good.here.waits;
+              suspended = suspended_later cs (engines.goal_of e) (row_of e) (present rs) e.history.suspended.goals.items e.history.suspended.done.items (subst (λ x. count (row_of e).columns ≤ count x.columns) (sym pr) more) good.here.suspended;
+              waiting = good.here.waiting;
+              waits = waits_later cs (engines.goal_of e) (kept_of e.history) rs e.front.waits l good.here.waits;
               known = tt;
             };
           }
 
 -- the link that was made stands for the goals after the first
-pub next_linked : (a b : Engine) (more : List Rest) (n : ℕ) → IsSamePlace a b → b.front ≡ a.front → b.history.links.items ≡ a.history.links.items ++ more → IsRest a.clauses.now (engines.goal_of a) (length a.history.links.items) a.front.rest → IsLinkOf a b (stepped a.front.rest) n → IsNext b n
+pub next_linked : (a b : Engine) (more : List Rest) (n : ℕ) → IsSamePlace a b → b.front ≡ a.front → b.history.links.items ≡ a.history.links.items ++ more → IsRest a.clauses.now (engines.goal_of a) (length a.history.links.items) a.front.rest → IsLinkOf a b (after_first a.front.rest) n → IsNext b n
 next_linked a b more n s f new r k = (
   k.0
-      ∙ carried (λ cs root rs. goals_in a.clauses.now (engines.goal_of a) a.history.links.items (stepped a.front.rest) ≡ goals_in cs root a.history.links.items (stepped a.front.rest)) a b s refl
-      ∙ sym (left_still b.clauses.now (engines.goal_of b) a.history.links.items b.history.links.items more (stepped a.front.rest) new r.next)
-      ∙ ap (λ x. goals_in b.clauses.now (engines.goal_of b) b.history.links.items (stepped x.rest)) (sym f),
+      ∙ carried (λ cs root rs. goals_in a.clauses.now (engines.goal_of a) a.history.links.items (after_first a.front.rest) ≡ goals_in cs root a.history.links.items (after_first a.front.rest)) a b s refl
+      ∙ sym (left_still b.clauses.now (engines.goal_of b) a.history.links.items b.history.links.items more (after_first a.front.rest) new r.next)
+      ∙ ap (λ x. goals_in b.clauses.now (engines.goal_of b) b.history.links.items (after_first x.rest)) (sym f),
   k.1,
 )
+
+-- the same goal is selected
+pub met_linked : (a b : Engine) (s : Selected) → IsSamePlace a b → b.front ≡ a.front → b.history.suspended ≡ a.history.suspended → IsMet a s → IsMet b s
+met_linked a b s same f u m =
+    carried (λ cs root rs. IsMetIn cs root (present rs) (kept_of b.history) b.front s) a b same
+    (met_still a.clauses.now (engines.goal_of a) (row_of a) (kept_of a.history) (kept_of b.history) a.front b.front (ap (λ x. x.goals.items) u) (ap (λ x. x.done.items) u) (ap (λ x. x.rest) f) s m)
 
 pub choice_same : (a b : Engine) (k : ℕ) → IsSamePlace a b → HasChoice (program a.clauses.now) (place_of a).here k → HasChoice (program b.clauses.now) (place_of b).here k
 choice_same a b k s h = subst (λ p. HasChoice (program b.clauses.now) p.here k) (sym s.place) (subst (λ cs. HasChoice (program cs) (place_of a).here k) (sym s.search.clauses) h)
@@ -303,74 +300,73 @@ took_from a b c k false s h = (subst (λ p. IsDeadAt (program a.clauses.now) p.h
 
 -- ===== a split
 
-module _ (e : Engine) (good : IsGood e) (wait : AllWait e) (sees : Sees e (Some acts.Split)) (d : GoalAt) (shown : (g : goals.Goal ℕ) → IsGoalAt e e.front.rest g → IsShown e.clauses.now g d) where
-  abbrev item : (g : goals.Goal ℕ) × IsGoalAt e e.front.rest g
-  item = goal_there e.clauses.now (engines.goal_of e) (length e.history.links.items) e.front.rest good.here.rest sees.0
+module _ (e : Engine) (good : IsGood e) (at : Option ℕ) (met : IsMet e (selected_as at acts.Split)) (l : Rest) (begins : BeginsAt e at l) (d : GoalAt) (shown : (g : goals.Goal ℕ) → IsGoalAt e l g → IsShown e.clauses.now g d) where
+  abbrev item : (g : goals.Goal ℕ) × IsGoalAt e l g
+  item = item_there e at l good met.there begins
 
   abbrev whole : goals.Goal ℕ
-  whole = put_goal (counted e.front.rest.first) (item).0
+  whole = put_goal (counted l.first) (item).0
 
   abbrev seen : IsShown e.clauses.now (item).0 d
   seen = shown (item).0 (item).1
 
   abbrev splitting : does (row_of e) whole ≡ Some splits
-  splitting = (sees.1 (item).0 (item).1).0
-
-  pub split_lent : IsLent (row_of e) d e.front.rest.first
-  split_lent = shown_lent e.clauses.now (row_of e) (item).0 d e.front.rest.first seen (first_over e good sees.0 (item).0 (item).1)
+  splitting = (met.looks l begins (item).0 (item).1).0
 
   pub split_one : count (forest d.arguments.now) ≡ 1
-  split_one = ap count (seen).arguments ∙ (sees.1 (item).0 (item).1).1
+  split_one = ap count (seen).arguments ∙ (met.looks l begins (item).0 (item).1).1
 
-  terms_are : terms_of d e.front.rest.first ≡ (whole).arguments
-  terms_are = ap (counted_all e.front.rest.first) (seen).arguments
+  -- the first argument can be bound
+  pub split_ready : (n : ℤ) → IsInteger n → (m : Rest) (g : goals.Goal ℕ) → BeginsAt e at m → IsGoalAt e m g → IsReady (count g.arguments) (acts.Bind 0 n)
+  split_ready n z m g b is = let one = (met.looks m b g is).1 in (omega (arith, one), z)
 
-  values_are : values_of (row_of e).domains (terms_in (row_of e) d e.front.rest.first) ≡ values (row_of e) whole
+  terms_are : terms_of d l.first ≡ (whole).arguments
+  terms_are = ap (counted_all l.first) (seen).arguments
+
+  values_are : values_of (row_of e).domains (terms_in (row_of e) d l.first) ≡ values (row_of e) whole
   values_are = ap (λ ts. values_of (row_of e).domains (put_all (value_in (row_of e)) ts)) terms_are
 
   module _ (place : ℕ) (choice : HasChoice (program e.clauses.now) (place_of e).here place) where
-    pub split_place : place < length (values_of (row_of e).domains (terms_in (row_of e) d e.front.rest.first))
+    pub split_place : place < length (values_of (row_of e).domains (terms_in (row_of e) d l.first))
     split_place =
-        let k = at_split e good wait sees.0 (item).0 (item).1 splitting in
+        let k = at_split e good (selected_as at acts.Split) met l begins (item).0 (item).1 splitting in
         let same : k.0 ≡ choice.0 = cc (sym k.1 ∙ choice.1) in
         omega (arith, choice.2, ap length same, k.2, ap length values_are)
 
-    module _ (n : ℤ) (at : slice_get (values_of (row_of e).domains (terms_in (row_of e) d e.front.rest.first)) place ≡ Some n) (q : Row) where
+    module _ (n : ℤ) (found : slice_get (values_of (row_of e).domains (terms_in (row_of e) d l.first)) place ≡ Some n) (new : Engine) where
       abbrev front_goals : List (goals.Goal ℕ)
-      front_goals = waiting e e.front.passed
+      front_goals = before e.clauses.now (engines.goal_of e) (kept_of e.history) at
 
       abbrev back_goals : List (goals.Goal ℕ)
-      back_goals = goals_in e.clauses.now (engines.goal_of e) e.history.links.items (stepped e.front.rest)
+      back_goals = after e.clauses.now (engines.goal_of e) (kept_of e.history) e.front at
+
+      abbrev they_wait : DoWait (row_of e) front_goals
+      they_wait = wait_ahead e good (selected_as at acts.Split) met l begins (item).0 (item).1
+
+      abbrev they_over : AreOver (row_of e) (with_goals (front_goals ++ whole ∷ back_goals) e.columns.columns)
+      they_over = over e good (selected_as at acts.Split) met l begins (item).0 (item).1
+
+      abbrev stand : config_in (row_of e) (front_goals ++ whole ∷ back_goals) e.columns.columns e.front.depth ≡ (place_of e).here
+      stand = here_is e good (selected_as at acts.Split) met l begins (item).0 (item).1
 
       value_there : slice_get (values (row_of e) whole) place ≡ Some n
-      value_there = ap (λ ns. slice_get ns place) (sym values_are) ∙ at
+      value_there = ap (λ ns. slice_get ns place) (sym values_are) ∙ found
 
-      decides : (b : Bool) → AreDecided (row_of e) (at_place 0 n (terms_of d e.front.rest.first)) b q → AreDecided (row_of e) (at_place 0 n (whole).arguments) b q
-      decides b h = subst (λ ts. AreDecided (row_of e) (at_place 0 n ts) b q) terms_are h
-
-      pub split_takes : AreDecided (row_of e) (at_place 0 n (terms_of d e.front.rest.first)) true q → Chosen (program e.clauses.now) (place_of e).here place (config_in q (front_goals ++ back_goals) e.columns.columns e.front.depth)
+      pub split_takes : Solved e at (acts.Bind 0 n) true new → Chosen (program e.clauses.now) (place_of e).here place (place_of new).here
       split_takes h =
-          subst (λ x. Chosen (program e.clauses.now) x place (config_in q (front_goals ++ back_goals) e.columns.columns e.front.depth)) (here_is e good wait sees.0 (item).0 (item).1)
-          (so.value_chosen (program e.clauses.now) (row_of e) good.here.row front_goals whole back_goals e.columns.columns e.front.depth (over e good wait sees.0 (item).0 (item).1) wait splitting place n value_there q (decides true h))
+          subst (Chosen (program e.clauses.now) (place_of e).here place) (sym h.1)
+          (subst (λ x. Chosen (program e.clauses.now) x place (without e at (row_of new))) stand
+          (so.value_chosen (program e.clauses.now) (row_of e) good.here.row front_goals whole back_goals e.columns.columns e.front.depth they_over they_wait splitting place n value_there (row_of new) (h.0 l (item).0 begins (item).1)))
 
-      pub split_fails : AreDecided (row_of e) (at_place 0 n (terms_of d e.front.rest.first)) false q → IsDeadAt (program e.clauses.now) (place_of e).here place
+      pub split_fails : Solved e at (acts.Bind 0 n) false new → IsDeadAt (program e.clauses.now) (place_of e).here place
       split_fails h =
-          subst (λ x. IsDeadAt (program e.clauses.now) x place) (here_is e good wait sees.0 (item).0 (item).1)
-          (so.value_failed (program e.clauses.now) (row_of e) good.here.row front_goals whole back_goals e.columns.columns e.front.depth (over e good wait sees.0 (item).0 (item).1) wait splitting place n value_there q (decides false h))
+          let q = h.0 l (item).0 begins (item).1 in
+          subst (λ x. IsDeadAt (program e.clauses.now) x place) stand
+          (so.value_failed (program e.clauses.now) (row_of e) good.here.row front_goals whole back_goals e.columns.columns e.front.depth they_over they_wait splitting place n value_there q.0 q.1)
 
-      pub split_good : (rs : List Row) → present rs ≡ q → IsLonger e.history.bindings rs → AreDecided (row_of e) (at_place 0 n (terms_of d e.front.rest.first)) true q → IsGood (record { clauses = e.clauses; root = e.root; columns = e.columns; history = record e.history { bindings = rs }; front = record { passed = e.front.passed; waits = e.front.waits; rest = stepped e.front.rest; depth = e.front.depth; selected = None } })
-      split_good rs pr l h = record {
-        ready = kept_longer e rs (record { passed = e.front.passed; waits = e.front.waits; rest = stepped e.front.rest; depth = e.front.depth; selected = None }) good.ready l;
-        here = record {
-          row = subst IsRow (sym pr) (so.value_row (program e.clauses.now) (row_of e) good.here.row front_goals whole back_goals e.columns.columns e.front.depth (over e good wait sees.0 (item).0 (item).1) wait splitting place n value_there q (decides true h));
-          over = subst (λ x. AreOver x (with_goals (front_goals ++ back_goals) e.columns.columns)) (sym pr) (so.value_over (program e.clauses.now) (row_of e) good.here.row front_goals whole back_goals e.columns.columns e.front.depth (over e good wait sees.0 (item).0 (item).1) wait splitting place n value_there q (decides true h));
-          rest = stepped_rest e.clauses.now (engines.goal_of e) (length e.history.links.items) e.front.rest good.here.rest sees.0;
-          passed = good.here.passed;
-          links = good.here.links;
-          waits = waits_longer e.clauses.now (engines.goal_of e) e.history.bindings rs e.history.links.items e.front.passed e.front.waits l good.here.waits;
-          known = tt;
-        };
-      }
+      pub split_took : (b : Bool) → Solved e at (acts.Bind 0 n) b new → Took e place b new
+      split_took true h = split_takes h
+      split_took false h = (split_fails h, h.1)
 
 -- ===== without a choice
 
@@ -378,32 +374,51 @@ none_ahead : (e : Engine) (k : ℕ) → follows e ≡ left_loose → HasChoice (
 none_ahead e k f h = absurd (cc (sym f ∙ h.1))
 
 pub ended_chooses : (e : Engine) (k : ℕ) → IsGood e → AllWait e → left e ≡ [] → HasChoice (program e.clauses.now) (place_of e).here k → ⊥
-ended_chooses e k good wait empty h = go e.front.passed refl
+ended_chooses e k good wait empty h = go e.front.waiting refl
   where
-    go : (n : ℕ) → e.front.passed ≡ n → ⊥
+    go : (n : ℕ) → e.front.waiting ≡ n → ⊥
     go zero z = absurd (cc (sym (at_end e good wait empty z) ∙ h.1))
     go (suc n) z = none_ahead e k (at_stop e good wait empty (omega (arith, z))) h
 
-solving_chooses : (e : Engine) (k : ℕ) (good : IsGood e) → AllWait e → (w : e.front.rest.from < e.front.rest.to) (g : goals.Goal ℕ) (at : IsGoalAt e e.front.rest g) (is : List (Item ℕ)) → does (row_of e) (put_goal (counted e.front.rest.first) g) ≡ Some (solves is) → HasChoice (program e.clauses.now) (place_of e).here k → ⊥
-solving_chooses e k good wait w g at is s h =
-    let raw = put_goal (counted e.front.rest.first) g in
-    let back = goals_in e.clauses.now (engines.goal_of e) e.history.links.items (stepped e.front.rest) in
-    let o = so.solves_one (program e.clauses.now) (row_of e) good.here.row (waiting e e.front.passed) raw back e.columns.columns e.front.depth (over e good wait w g at) wait is s in
-    let f : follows e ≡ one o.0 = ap (next (program e.clauses.now)) (sym (here_is e good wait w g at)) ∙ o.1 in
-    absurd (cc (sym f ∙ h.1))
+module _ (e : Engine) (k : ℕ) (good : IsGood e) (at : Option ℕ) (act : Act) (met : IsMet e (selected_as at act)) (h : HasChoice (program e.clauses.now) (place_of e).here k) where
+  abbrev l : (l : Rest) × BeginsAt e at l
+  l = begins_at e at met.there
 
--- what is neither a call nor a split has no alternatives
-pub no_choice : (e : Engine) (k : ℕ) (a : Act) → IsGood e → AllWait e → Sees e (Some a) → (Some a ≡ Some acts.Wait → ⊥) → ((n : ℕ) → a ≡ acts.Call n → ⊥) → (a ≡ acts.Split → ⊥) → HasChoice (program e.clauses.now) (place_of e).here k → ⊥
-no_choice e k a good wait sees ready call split h =
-    let g = goal_there e.clauses.now (engines.goal_of e) (length e.history.links.items) e.front.rest good.here.rest sees.0 in
-    go g.0 g.1 a (sees.1 g.0 g.1).0 ready call split
-  where
-    go : (g : goals.Goal ℕ) → IsGoalAt e e.front.rest g → (a : Act) → ActsAs e.clauses.now (row_of e) (put_goal (counted e.front.rest.first) g) a → (Some a ≡ Some acts.Wait → ⊥) → ((n : ℕ) → a ≡ acts.Call n → ⊥) → (a ≡ acts.Split → ⊥) → ⊥
-    go g at acts.Wait s r c p = r refl
-    go g at acts.Fail s r c p = absurd (cc (sym (at_refused e good wait sees.0 g at s) ∙ h.1))
-    go g at acts.Hold s r c p = solving_chooses e k good wait sees.0 g at _ s h
-    go g at acts.Equate s r c p = solving_chooses e k good wait sees.0 g at _ s h
-    go g at acts.Narrow s r c p = solving_chooses e k good wait sees.0 g at _ s h
-    go g at (acts.Bind i n) s r c p = solving_chooses e k good wait sees.0 g at _ s h
-    go g at acts.Split s r c p = p refl
-    go g at (acts.Call n) s r c p = c n refl
+  abbrev g : (g : goals.Goal ℕ) × IsGoalAt e (l).0 g
+  g = item_there e at (l).0 good met.there (l).1
+
+  abbrev its : goals.Goal ℕ
+  its = put_goal (counted (l).0.first) (g).0
+
+  never_solves : (is : List (Item ℕ)) → does (row_of e) its ≡ Some (solves is) → ⊥
+  never_solves is s =
+      let ahead = before e.clauses.now (engines.goal_of e) (kept_of e.history) at in
+      let behind = after e.clauses.now (engines.goal_of e) (kept_of e.history) e.front at in
+      let o = so.solves_one (program e.clauses.now) (row_of e) good.here.row ahead its behind e.columns.columns e.front.depth (over e good (selected_as at act) met (l).0 (l).1 (g).0 (g).1) (wait_ahead e good (selected_as at act) met (l).0 (l).1 (g).0 (g).1) is s in
+      let f : follows e ≡ one o.0 = ap (next (program e.clauses.now)) (sym (here_is e good (selected_as at act) met (l).0 (l).1 (g).0 (g).1)) ∙ o.1 in
+      absurd (cc (sym f ∙ h.1))
+
+  -- what is neither a call nor a split has no alternatives
+  pub no_choice : ((n : ℕ) → act ≡ acts.Call n → ⊥) → (act ≡ acts.Split → ⊥) → ⊥
+  no_choice call split = go act refl (met.looks (l).0 (l).1 (g).0 (g).1).0
+    where
+      go : (a : Act) → act ≡ a → ActsAs e.clauses.now (row_of e) its a → ⊥
+      go acts.Wait is s = met.ready is
+      go acts.Fail is s = absurd (cc (sym (at_refused e good (selected_as at act) met (l).0 (l).1 (g).0 (g).1 s) ∙ h.1))
+      go acts.Hold is s = never_solves _ s
+      go acts.Equate is s = never_solves _ s
+      go acts.Narrow is s = never_solves _ s
+      go (acts.Bind i n) is s = never_solves _ s
+      go acts.Split is s = split is
+      go (acts.Call n) is s = call n is
+
+-- a suspended goal is no call
+pub no_call : (e : Engine) (i n : ℕ) → IsGood e → IsMet e (selected_as (Some i) (acts.Call n)) → ⊥
+no_call e i n good met =
+    let l = begins_at e (Some i) met.there in
+    let g = item_there e (Some i) l.0 good met.there l.1 in
+    let raw = put_goal (counted l.0.first) g.0 in
+    let named = (met.looks l.0 l.1 g.0 g.1).0 in
+    let t = l.1.0 in
+    let at = subst (λ x. IsGoalAt e x g.0) l.1.2 g.1 in
+    (good.here.suspended.goals i t l.1.1).waits g.0 at (predicate_of named.0) (shape_called (row_of e) (put_goal (value_in (row_of e)) raw).arguments g.0.shape (predicate_of named.0) named.2)

@@ -1,5 +1,5 @@
 -- What follows goals over bindings: by the leftmost goal that doesn't wait, with those before it and after it.
-use Rattle.std.proofs.Common.{◌≡◌, ℕ, ℤ, zero, suc, ◌<◌, inl, inr, true, false, List, [], ◌∷◌, ◌++◌, length, map, All, Some, None, refl, ap, sym, ◌∙◌, subst, arith, append-nil, append_assoc, length-append}
+use Rattle.std.proofs.Common.{◌≡◌, ℕ, ℤ, zero, suc, ◌<◌, ◌≤◌, inl, inr, true, false, List, [], ◌∷◌, ◌++◌, length, map, All, Some, None, refl, ap, sym, ◌∙◌, subst, arith, append-nil, append_assoc, length-append}
 use Rattle.std.specs.Prelude.{option_map}
 use Rattle.std.specs.List.{slice_get}
 use Rattle.std.proofs.lemmas.Option.{slice_get-map}
@@ -220,6 +220,10 @@ module _ (clauses : Program) (r : Row) (row : IsRow r) (before : List (Goal ℕ)
 
         pub call_row : (q : Row) → AreDecided (with_many r amount) items true q → IsRow q
         call_row q a = (solved_row items (with_many r amount) q fresh.row a).0
+
+        -- the variables that were there are still
+        pub call_count : (q : Row) → AreDecided (with_many r amount) items true q → n ≤ count q.columns
+        call_count q a = omega (arith, (solved_row items (with_many r amount) q fresh.row a).1, fresh.size)
 
         pub call_over : (q : Row) → AreDecided (with_many r amount) items true q → AreOver q (with_goals rest columns)
         call_over q a v i =

@@ -8,7 +8,7 @@ use Rattle.pp_sld.specs.Goals.{Goal, put_goal}
 use Rattle.pp_term.specs.declared.clause.Clause.{Clause}
 use Rattle.pp_resolve.specs.declared.history.Rest.{Rest}
 use Rattle.pp_resolve.specs.Standing.{counted}
-use Rattle.pp_resolve.specs.Links.{along, body_of, piece, first_of, below, goals_in, IsRest, AreLinks}
+use Rattle.pp_resolve.specs.Links.{along, after_first, body_of, piece, first_of, below, goals_in, IsRest, AreLinks}
 
 pub other : (m n : ℕ) → (m ≡ n → ⊥) → nat_eq m n ≡ false
 other m n h = go (nat_eq m n) refl
@@ -120,10 +120,6 @@ take_first [] i x e = absurd (cc e)
 take_first (y ∷ ys) zero x e = ap (λ z. z ∷ []) (cc e)
 take_first (y ∷ ys) (suc i) x e = take_first ys i x e
 
--- the same without the first goal
-abbrev pub stepped : Rest → Rest
-stepped l = record { body = l.body; from = l.from + 1; to = l.to; first = l.first; next = l.next }
-
 module _ (cs : List Clause) (root : Goal ℕ) where
   pub piece_done : (l : Rest) → l.from ≡ l.to → piece cs root l ≡ []
   piece_done l e =
@@ -140,14 +136,14 @@ module _ (cs : List Clause) (root : Goal ℕ) where
     pub first_is : first_of cs root l ≡ raw ∷ []
     first_is = ap (map (put_goal (counted l.first))) (take_first (body_of cs root l.body) l.from g e)
 
-    pub piece_open : l.from < l.to → piece cs root l ≡ raw ∷ piece cs root (stepped l)
+    pub piece_open : l.from < l.to → piece cs root l ≡ raw ∷ piece cs root (after_first l)
     piece_open w = ap (map (put_goal (counted l.first))) (take_open (body_of cs root l.body) l.from l.to g e w)
 
-    pub goals_open : (ls : List Rest) → l.from < l.to → goals_in cs root ls l ≡ raw ∷ goals_in cs root ls (stepped l)
+    pub goals_open : (ls : List Rest) → l.from < l.to → goals_in cs root ls l ≡ raw ∷ goals_in cs root ls (after_first l)
     goals_open ls w = ap (λ gs. gs ++ below cs root (reverse ls) l.next) (piece_open w)
 
   pub goal_there : (n : ℕ) (l : Rest) → IsRest cs root n l → l.from < l.to → (g : Goal ℕ) × (slice_get (body_of cs root l.body) l.from ≡ Some g)
   goal_there n l r w = has_item (body_of cs root l.body) l.from (omega (arith, w, r.to))
 
-  pub stepped_rest : (n : ℕ) (l : Rest) → IsRest cs root n l → l.from < l.to → IsRest cs root n (stepped l)
+  pub stepped_rest : (n : ℕ) (l : Rest) → IsRest cs root n l → l.from < l.to → IsRest cs root n (after_first l)
   stepped_rest n l r w = record { formed = r.formed; from = omega (arith, w); to = r.to; next = r.next; small = r.small }

@@ -53,7 +53,7 @@ unmapped f [] i y e = absurd (cc e)
 unmapped f (x ∷ xs) zero y e = (x, refl, cc e)
 unmapped f (x ∷ xs) (suc i) y e = unmapped f xs i y e
 
-all_at : {A : Type 0} (P : A → Type 0) (xs : List A) (i : ℕ) (x : A) → All P xs → slice_get xs i ≡ Some x → P x
+pub all_at : {A : Type 0} (P : A → Type 0) (xs : List A) (i : ℕ) (x : A) → All P xs → slice_get xs i ≡ Some x → P x
 all_at P [] i x h e = absurd (cc e)
 all_at P (y ∷ ys) zero x h e = subst P (cc e) (All-head P y ys h)
 all_at P (y ∷ ys) (suc i) x h e = all_at P ys i x (All-tail P y ys h) e

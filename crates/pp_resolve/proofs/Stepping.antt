@@ -1,14 +1,14 @@
 -- What follows the place where an engine stands.
-use Rattle.std.proofs.Common.{◌≡◌, ℕ, zero, suc, ◌+◌, ◌-◌, ◌<◌, inl, inr, Bool, true, false, cond, List, [], ◌∷◌, ◌++◌, length, map, get_or, All, Some, refl, ap, sym, ◌∙◌, subst, arith, append-nil}
+use Rattle.std.proofs.Common.{◌≡◌, ℕ, zero, suc, ◌<◌, inl, inr, true, false, cond, List, [], ◌∷◌, ◌++◌, length, map, All, Option, Some, None, refl, ap, sym, ◌∙◌, subst, arith, append-nil}
 use Rattle.std.proofs.lemmas.List.{length-map}
-use Rattle.pp_algebra.specs.Rows.{Row, IsRow}
+use Rattle.pp_algebra.specs.Terms.{Trees}
+use Rattle.pp_algebra.specs.Rows.{Row}
 use Rattle.pp_algebra.specs.Solve.{Item}
 use Rattle.pp_sld.specs.Goals.{Program, Predicate, Goal, put_goal, with_goals}
 use Rattle.pp_sld.specs.Selection.{solves, calls, never, splits}
 use Rattle.pp_sld.specs.Ways.{Way, Leads, IsDead, finished, left_loose, fails, one, choices, next}
 use Rattle.pp_term.specs.declared.clause.Clause.{Clause}
 use Rattle.pp_term.specs.Meanings.{program}
-use Rattle.pp_unify.proofs.Listed.{get_any}
 use Rattle.pp_unify.specs.Laws.{item_in, IsItemOver}
 use Rattle.pp_unify.specs.Forests.{AreOver, AreDecided}
 use Rattle.pp_goal.specs.declared.acts.Act.{Act}
@@ -18,24 +18,19 @@ use Rattle.pp_walk.specs.declared.event.Event.TheVariants.{Failed, Choice}
 use Rattle.pp_walk.specs.Places.{Place}
 use Rattle.pp_walk.specs.Moves.{Stepped, step_cost}
 use Rattle.pp_resolve.specs.declared.history.Rest.{Rest}
+use Rattle.pp_resolve.specs.declared.history.Front.{Front}
+use Rattle.pp_resolve.specs.declared.history.Selected.{Selected}
 use Rattle.pp_resolve.specs.declared.engine.Engine.{Engine}
 use Rattle.pp_resolve.specs.Standing.{counted, config_in}
-use Rattle.pp_resolve.specs.Links.{goals_of, goals_in}
+use Rattle.pp_resolve.specs.Kept.{Kept, kept_of}
+use Rattle.pp_resolve.specs.Links.{open_from, goals_of, before, after}
 use Rattle.pp_resolve.specs.Acts.{does, values, items_by, ActsAs, Solves}
-use Rattle.pp_resolve.specs.Engines.{goal_of, row_of, place_of, waiting, left, DoWait, AllWait, IsGood, IsSamePlace, IsGoalAt, Sees}
-use Rattle.pp_algebra.specs.Terms.{Trees, count}
-use Rattle.pp_row.specs.Reading.{forest}
-use Rattle.pp_clause.specs.declared.goal_at.GoalAt.{GoalAt}
-use Rattle.pp_goal.specs.Arguments.{IsLent, terms_of}
-use Rattle.pp_goal.specs.Acts.{IsReady, items}
-use Rattle.pp_goal.proofs.Acting.{items-over}
-use Rattle.pp_resolve.specs.Shown.{IsShown}
-use Rattle.pp_resolve.proofs.Showing.{shown_lent}
-use Rattle.pp_resolve.proofs.Acting.{same_items, decided_by}
-use Rattle.pp_resolve.proofs.Moving.{first_over}
-use Rattle.pp_resolve.specs.Events.{alternatives_of, follows, IsSolving}
-use Rattle.pp_resolve.proofs.Linked.{other, stepped, goals_open, goal_there, link_is, link_some, first_is}
-use Rattle.pp_resolve.proofs.Unwinding.{chain_at, nothing_waits}
+use Rattle.pp_resolve.specs.Engines.{goal_of, row_of, place_of, left, DoWait, AllWait, IsGood, IsSamePlace, IsPlace, IsRestAt, IsPlaceOf, BeginsAt, IsGoalAt, IsMet}
+use Rattle.pp_resolve.specs.Events.{alternatives_of, follows, IsSolving, without, Solved}
+use Rattle.pp_resolve.proofs.Linked.{other, goal_there, has_item}
+use Rattle.pp_resolve.proofs.Open.{parts, before_wait}
+use Rattle.pp_resolve.proofs.Moving.{goal_over_at, rest_at_place}
+use Rattle.pp_resolve.proofs.Acting.{items_by-over}
 use Rattle.pp_resolve.proofs.Following as so
 use Rattle.pp_resolve.proofs.Following.{ended, stuck_all}
 
@@ -59,45 +54,54 @@ follows_same old mid s = ap (λ p. next (program mid.clauses.now) p.here) s.plac
 
 -- ===== no goal is left that doesn't wait
 
-some_wait : (clauses : Program) (r : Row) (xs before : List (Goal ℕ)) (g : Goal ℕ) (columns : Trees ℕ) (deep : ℕ) → xs ≡ before ++ g ∷ [] → DoWait r xs → next clauses (config_in r xs columns deep) ≡ left_loose
-some_wait clauses r [] before g columns deep e h = absurd (none before (sym e))
-  where
-    none : (bs : List (Goal ℕ)) → bs ++ g ∷ [] ≡ [] → ⊥
-    none [] x = absurd (cc x)
-    none (b ∷ bs) x = absurd (cc x)
-some_wait clauses r (x ∷ xs) before g columns deep e h = stuck_all clauses r x xs columns deep h
+no_goals : (gs : List (Goal ℕ)) → length gs ≡ 0 → gs ≡ []
+no_goals [] e = refl
+no_goals (g ∷ gs) e = absurd (omega (arith, e))
+
+some_wait : (clauses : Program) (r : Row) (gs : List (Goal ℕ)) (columns : Trees ℕ) (deep : ℕ) → 0 < length gs → DoWait r gs → next clauses (config_in r gs columns deep) ≡ left_loose
+some_wait clauses r [] columns deep w h = absurd (omega (arith, w))
+some_wait clauses r (g ∷ gs) columns deep w h = stuck_all clauses r g gs columns deep h
 
 module _ (e : Engine) (good : IsGood e) (wait : AllWait e) (none : left e ≡ []) where
-  pub at_end : e.front.passed ≡ 0 → follows e ≡ finished
+  abbrev those : List (Goal ℕ)
+  those = open_from e.clauses.now (goal_of e) e.history.suspended.done.items 0 e.history.suspended.goals.items
+
+  all_open : goals_of e.clauses.now (goal_of e) (kept_of e.history) e.front ≡ those
+  all_open = ap (λ gs. those ++ gs) none ∙ append-nil those
+
+  pub at_end : e.front.waiting ≡ 0 → follows e ≡ finished
   at_end z =
-      ap (λ gs. next (program e.clauses.now) (config_in (row_of e) (waiting e e.front.passed ++ gs) e.columns.columns e.front.depth)) none
-      ∙ ap (λ gs. next (program e.clauses.now) (config_in (row_of e) (gs ++ []) e.columns.columns e.front.depth)) (nothing_waits e e.front.passed z)
+      ap (λ gs. next (program e.clauses.now) (config_in (row_of e) gs e.columns.columns e.front.depth)) (all_open ∙ no_goals those (sym good.here.waiting ∙ z))
       ∙ ended (program e.clauses.now) (row_of e) e.columns.columns e.front.depth
 
-  pub at_stop : 0 < e.front.passed → follows e ≡ left_loose
+  pub at_stop : 0 < e.front.waiting → follows e ≡ left_loose
   at_stop p =
-      let ls = e.history.links.items in
-      let i = e.front.passed - 1 in
-      let up : e.front.passed ≡ i + 1 = omega (arith, p) in
-      let w : i < length ls = omega (arith, p, good.here.passed) in
-      let l : Rest = get_or ls i e.front.rest in
-      let is : l ≡ get_or ls i l = get_any ls i e.front.rest l w in
-      let there = goal_there e.clauses.now (goal_of e) (length ls) l (link_is e.clauses.now (goal_of e) ls i l w is good.here.links) (link_some e.clauses.now (goal_of e) ls i l w is good.here.links) in
-      let chain : waiting e e.front.passed ≡ waiting e l.next ++ put_goal (counted l.first) there.0 ∷ [] = ap (waiting e) up ∙ chain_at e good i l w is ∙ ap (λ gs. waiting e l.next ++ gs) (first_is e.clauses.now (goal_of e) l there.0 there.1) in
-      ap (λ gs. next (program e.clauses.now) (config_in (row_of e) (waiting e e.front.passed ++ gs) e.columns.columns e.front.depth)) none
-      ∙ ap (λ gs. next (program e.clauses.now) (config_in (row_of e) gs e.columns.columns e.front.depth)) (append-nil (waiting e e.front.passed))
-      ∙ some_wait (program e.clauses.now) (row_of e) (waiting e e.front.passed) (waiting e l.next) (put_goal (counted l.first) there.0) e.columns.columns e.front.depth chain wait
+      ap (λ gs. next (program e.clauses.now) (config_in (row_of e) gs e.columns.columns e.front.depth)) all_open
+      ∙ some_wait (program e.clauses.now) (row_of e) those e.columns.columns e.front.depth (omega (arith, p, good.here.waiting)) (before_wait e.clauses.now (goal_of e) (row_of e) (kept_of e.history) None wait)
 
 pub end_cost : (e : Engine) → IsGood e → AllWait e → left e ≡ [] → step_cost (follows e) ≡ 0
-end_cost e good wait none = go e.front.passed refl
+end_cost e good wait none = go e.front.waiting refl
   where
-    go : (n : ℕ) → e.front.passed ≡ n → step_cost (follows e) ≡ 0
+    go : (n : ℕ) → e.front.waiting ≡ n → step_cost (follows e) ≡ 0
     go zero z = ap step_cost (at_end e good wait none z)
     go (suc n) z = ap step_cost (at_stop e good wait none (omega (arith, z)))
 
--- ===== the first goal that is left doesn't wait
+-- ===== the goal at a place
 
-module _ (e : Engine) (good : IsGood e) (wait : AllWait e) (w : e.front.rest.from < e.front.rest.to) (g : Goal ℕ) (at : IsGoalAt e e.front.rest g) where
+begins_there : (k : Kept) (f : Front) (at : Option ℕ) → IsPlace k f at → (l : Rest) × IsRestAt k f at l
+begins_there k f None p = (f.rest, refl)
+begins_there k f (Some i) p = let s = has_item k.suspended i p.0 in (s.0.rest, (s.0, s.1, refl))
+
+-- goals begin there
+pub begins_at : (e : Engine) (at : Option ℕ) → IsPlaceOf e at → (l : Rest) × BeginsAt e at l
+begins_at e at = begins_there (kept_of e.history) e.front at
+
+-- a goal stands there
+pub item_there : (e : Engine) (at : Option ℕ) (l : Rest) → IsGood e → IsPlaceOf e at → BeginsAt e at l → (g : Goal ℕ) × IsGoalAt e l g
+item_there e at l good p b = let r = rest_at_place e at l good p b in goal_there e.clauses.now (goal_of e) (length e.history.links.items) l r.0 r.1
+
+-- it is selected
+module _ (e : Engine) (good : IsGood e) (s : Selected) (is : IsMet e s) (l : Rest) (begins : BeginsAt e s.at l) (g : Goal ℕ) (at : IsGoalAt e l g) where
   abbrev r : Row
   r = row_of e
 
@@ -105,36 +109,39 @@ module _ (e : Engine) (good : IsGood e) (wait : AllWait e) (w : e.front.rest.fro
   columns = e.columns.columns
 
   abbrev raw : Goal ℕ
-  raw = put_goal (counted e.front.rest.first) g
+  raw = put_goal (counted l.first) g
 
-  abbrev before : List (Goal ℕ)
-  before = waiting e e.front.passed
+  abbrev ahead : List (Goal ℕ)
+  ahead = before e.clauses.now (goal_of e) (kept_of e.history) s.at
 
-  abbrev after : List (Goal ℕ)
-  after = goals_in e.clauses.now (goal_of e) e.history.links.items (stepped e.front.rest)
+  abbrev behind : List (Goal ℕ)
+  behind = after e.clauses.now (goal_of e) (kept_of e.history) e.front s.at
 
-  pub parts : goals_of e.clauses.now (goal_of e) e.history.links.items e.front ≡ before ++ raw ∷ after
-  parts = ap (λ gs. before ++ gs) (goals_open e.clauses.now (goal_of e) e.front.rest g at e.history.links.items w)
+  pub parts_are : goals_of e.clauses.now (goal_of e) (kept_of e.history) e.front ≡ ahead ++ raw ∷ behind
+  parts_are = parts e.clauses.now (goal_of e) (kept_of e.history) e.front s.at l g is.there begins at
 
-  pub over : AreOver r (with_goals (before ++ raw ∷ after) columns)
-  over = subst (λ gs. AreOver r (with_goals gs columns)) parts good.here.over
+  pub wait_ahead : DoWait r ahead
+  wait_ahead = before_wait e.clauses.now (goal_of e) r (kept_of e.history) s.at is.wait
 
-  pub here_is : config_in r (before ++ raw ∷ after) columns e.front.depth ≡ (place_of e).here
-  here_is = ap (λ gs. config_in r gs columns e.front.depth) (sym parts)
+  pub over : AreOver r (with_goals (ahead ++ raw ∷ behind) columns)
+  over = subst (λ gs. AreOver r (with_goals gs columns)) parts_are good.here.over
+
+  pub here_is : config_in r (ahead ++ raw ∷ behind) columns e.front.depth ≡ (place_of e).here
+  here_is = ap (λ gs. config_in r gs columns e.front.depth) (sym parts_are)
 
   abbrev clauses : Program
   clauses = program e.clauses.now
 
   pub at_refused : does r raw ≡ Some never → follows e ≡ fails
-  at_refused d = subst (λ c. next clauses c ≡ fails) here_is (so.refused clauses r good.here.row before raw after columns e.front.depth over wait d)
+  at_refused d = subst (λ c. next clauses c ≡ fails) here_is (so.refused clauses r good.here.row ahead raw behind columns e.front.depth over wait_ahead d)
 
   pub at_spent : (p : Predicate) → does r raw ≡ Some (calls p) → e.front.depth ≡ 0 → follows e ≡ left_loose
-  at_spent p d z = subst (λ c. next clauses c ≡ left_loose) here_is (so.spent clauses r good.here.row before raw after columns e.front.depth over wait p d z)
+  at_spent p d z = subst (λ c. next clauses c ≡ left_loose) here_is (so.spent clauses r good.here.row ahead raw behind columns e.front.depth over wait_ahead p d z)
 
   pub at_called : (p : Predicate) → does r raw ≡ Some (calls p) → (d : ℕ) → e.front.depth ≡ suc d → (ws : List Way) × (follows e ≡ choices ws) × (length ws ≡ length (clauses p))
   at_called p h d k =
-      let way = so.way clauses r good.here.row before raw after columns e.front.depth over wait p h d k in
-      (map way (clauses p), subst (λ c. next clauses c ≡ choices (map way (clauses p))) here_is (so.called clauses r good.here.row before raw after columns e.front.depth over wait p h d k), length-map (clauses p) way)
+      let way = so.way clauses r good.here.row ahead raw behind columns e.front.depth over wait_ahead p h d k in
+      (map way (clauses p), subst (λ c. next clauses c ≡ choices (map way (clauses p))) here_is (so.called clauses r good.here.row ahead raw behind columns e.front.depth over wait_ahead p h d k), length-map (clauses p) way)
 
   pub call_cost : (p : Predicate) → does r raw ≡ Some (calls p) → step_cost (follows e) ≡ 0
   call_cost p h = go e.front.depth refl
@@ -145,27 +152,21 @@ module _ (e : Engine) (good : IsGood e) (wait : AllWait e) (w : e.front.rest.fro
 
   pub at_split : does r raw ≡ Some splits → (ws : List Way) × (follows e ≡ choices ws) × (length ws ≡ length (values r raw))
   at_split h =
-      let way = so.value_way clauses r good.here.row before raw after columns e.front.depth over wait h in
-      (map way (values r raw), subst (λ c. next clauses c ≡ choices (map way (values r raw))) here_is (so.split_follows clauses r good.here.row before raw after columns e.front.depth over wait h), length-map (values r raw) way)
+      let way = so.value_way clauses r good.here.row ahead raw behind columns e.front.depth over wait_ahead h in
+      (map way (values r raw), subst (λ c. next clauses c ≡ choices (map way (values r raw))) here_is (so.split_follows clauses r good.here.row ahead raw behind columns e.front.depth over wait_ahead h), length-map (values r raw) way)
 
   module _ (js : List (Item ℕ)) (js_over : All (IsItemOver r) js) (h : does r raw ≡ Some (solves (map (item_in r) js))) where
     abbrev way : Way
-    way = so.solving clauses r good.here.row before raw after columns e.front.depth over wait js js_over
+    way = so.solving clauses r good.here.row ahead raw behind columns e.front.depth over wait_ahead js js_over
 
     pub solved_next : follows e ≡ one way
-    solved_next = subst (λ c. next clauses c ≡ one way) here_is (so.solved_follows clauses r good.here.row before raw after columns e.front.depth over wait js js_over h)
+    solved_next = subst (λ c. next clauses c ≡ one way) here_is (so.solved_follows clauses r good.here.row ahead raw behind columns e.front.depth over wait_ahead js js_over h)
 
-    pub solved_went : (q : Row) → AreDecided r js true q → (v : Way) × (follows e ≡ one v) × Leads v (config_in q (before ++ after) columns e.front.depth)
-    solved_went q a = (way, solved_next, so.solved_leads clauses r good.here.row before raw after columns e.front.depth over wait js js_over h q a)
+    pub solved_went : (q : Row) → AreDecided r js true q → (v : Way) × (follows e ≡ one v) × Leads v (without e s.at q)
+    solved_went q a = (way, solved_next, so.solved_leads clauses r good.here.row ahead raw behind columns e.front.depth over wait_ahead js js_over h q a)
 
     pub solved_failed : (q : Row) → AreDecided r js false q → (v : Way) × (follows e ≡ one v) × IsDead v
-    solved_failed q a = (way, solved_next, so.solved_dead clauses r good.here.row before raw after columns e.front.depth over wait js js_over h q a)
-
-    pub solved_row_is : (q : Row) → AreDecided r js true q → IsRow q
-    solved_row_is = so.solved_is_row clauses r good.here.row before raw after columns e.front.depth over wait js js_over
-
-    pub solved_over_is : (q : Row) → AreDecided r js true q → AreOver q (with_goals (before ++ after) columns)
-    solved_over_is = so.solved_over clauses r good.here.row before raw after columns e.front.depth over wait js js_over
+    solved_failed q a = (way, solved_next, so.solved_dead clauses r good.here.row ahead raw behind columns e.front.depth over wait_ahead js js_over h q a)
 
 pub solves_of : (cs : List Clause) (r : Row) (g : Goal ℕ) (a : Act) → IsSolving a → ActsAs cs r g a → Solves r g a
 solves_of cs r g Wait s h = absurd s
@@ -177,50 +178,46 @@ solves_of cs r g (Bind i n) s h = h
 solves_of cs r g Split s h = absurd s
 solves_of cs r g (Call n) s h = absurd s
 
--- what is solved of a goal that is lent
-module _ (e : Engine) (good : IsGood e) (wait : AllWait e) (a : Act) (sees : Sees e (Some a)) (solving : IsSolving a) (d : GoalAt) (shown : (g : Goal ℕ) → IsGoalAt e e.front.rest g → IsShown e.clauses.now g d) where
-  abbrev w : e.front.rest.from < e.front.rest.to
-  w = sees.0
-
-  abbrev there : (g : Goal ℕ) × IsGoalAt e e.front.rest g
-  there = goal_there e.clauses.now (goal_of e) (length e.history.links.items) e.front.rest good.here.rest w
-
+-- what is solved of the selected goal
+module _ (e : Engine) (good : IsGood e) (s : Selected) (is : IsMet e s) (solving : IsSolving s.act) (l : Rest) (begins : BeginsAt e s.at l) (g : Goal ℕ) (at : IsGoalAt e l g) where
   abbrev its : Goal ℕ
-  its = put_goal (counted e.front.rest.first) (there).0
+  its = put_goal (counted l.first) g
 
   abbrev what : List (Item ℕ)
-  what = items_by its.shape its.arguments a
-
-  its_over : AreOver (row_of e) its.arguments
-  its_over = first_over e good w (there).0 (there).1
-
-  pub lent : IsLent (row_of e) d e.front.rest.first
-  lent = shown_lent e.clauses.now (row_of e) (there).0 d e.front.rest.first (shown (there).0 (there).1) its_over
-
-  pub ready : IsReady (count (forest d.arguments.now)) a
-  ready = subst (λ ts. IsReady (count ts) a) (sym (shown (there).0 (there).1).arguments) (sees.1 (there).0 (there).1).1
+  what = items_by its.shape its.arguments s.act
 
   what_over : All (IsItemOver (row_of e)) what
-  what_over = subst (All (IsItemOver (row_of e))) (same_items e.clauses.now d.kind its.shape its.arguments a (shown (there).0 (there).1).asks) (items-over (row_of e) d.kind its.arguments a its_over)
+  what_over = items_by-over (row_of e) its.shape its.arguments s.act (goal_over_at e s.at l g good is.there begins at)
 
-  solves_what : Solves (row_of e) its a
-  solves_what = solves_of e.clauses.now (row_of e) its a solving (sees.1 (there).0 (there).1).0
-
-  done : (b : Bool) (q : Row) → AreDecided (row_of e) (items d.kind (terms_of d e.front.rest.first) a) b q → AreDecided (row_of e) what b q
-  done b q h = decided_by e.clauses.now (row_of e) (there).0 d e.front.rest.first (shown (there).0 (there).1) a b q h
+  solves_what : Solves (row_of e) its s.act
+  solves_what = solves_of e.clauses.now (row_of e) its s.act solving (is.looks l begins g at).0
 
   pub solving_cost : step_cost (follows e) ≡ 1
-  solving_cost = ap step_cost (solved_next e good wait w (there).0 (there).1 what what_over solves_what)
+  solving_cost = ap step_cost (solved_next e good s is l begins g at what what_over solves_what)
 
-  module _ (q : Row) (h : AreDecided (row_of e) (items d.kind (terms_of d e.front.rest.first) a) true q) where
-    pub performs : (v : Way) × (follows e ≡ one v) × Leads v (config_in q (waiting e e.front.passed ++ goals_in e.clauses.now (goal_of e) e.history.links.items (stepped e.front.rest)) e.columns.columns e.front.depth)
-    performs = solved_went e good wait w (there).0 (there).1 what what_over solves_what q (done true q h)
+  pub performs : (q : Row) → AreDecided (row_of e) what true q → (v : Way) × (follows e ≡ one v) × Leads v (without e s.at q)
+  performs = solved_went e good s is l begins g at what what_over solves_what
 
-    pub performs_row : IsRow q
-    performs_row = solved_row_is e good wait w (there).0 (there).1 what what_over solves_what q (done true q h)
+  pub fails_to : (q : Row) → AreDecided (row_of e) what false q → (v : Way) × (follows e ≡ one v) × IsDead v
+  fails_to = solved_failed e good s is l begins g at what what_over solves_what
 
-    pub performs_over : AreOver q (with_goals (waiting e e.front.passed ++ goals_in e.clauses.now (goal_of e) e.history.links.items (stepped e.front.rest)) e.columns.columns)
-    performs_over = solved_over_is e good wait w (there).0 (there).1 what what_over solves_what q (done true q h)
+-- the same by what was solved at its place
+module _ (e : Engine) (good : IsGood e) (s : Selected) (is : IsMet e s) (solving : IsSolving s.act) where
+  abbrev l : (l : Rest) × BeginsAt e s.at l
+  l = begins_at e s.at is.there
 
-  pub fails_to : (q : Row) → AreDecided (row_of e) (items d.kind (terms_of d e.front.rest.first) a) false q → (v : Way) × (follows e ≡ one v) × IsDead v
-  fails_to q h = solved_failed e good wait w (there).0 (there).1 what what_over solves_what q (done false q h)
+  abbrev g : (g : Goal ℕ) × IsGoalAt e (l).0 g
+  g = item_there e s.at (l).0 good is.there (l).1
+
+  pub solved_cost : step_cost (follows e) ≡ 1
+  solved_cost = solving_cost e good s is solving (l).0 (l).1 (g).0 (g).1
+
+  pub solved_step : (n : Engine) → Solved e s.at s.act true n → (v : Way) × (follows e ≡ one v) × Leads v (place_of n).here
+  solved_step n h =
+      let k = performs e good s is solving (l).0 (l).1 (g).0 (g).1 (row_of n) (h.0 (l).0 (g).0 (l).1 (g).1) in
+      (k.0, k.1, subst (Leads k.0) (sym h.1) k.2)
+
+  pub failed_step : (n : Engine) → Solved e s.at s.act false n → (v : Way) × (follows e ≡ one v) × IsDead v
+  failed_step n h =
+      let q = h.0 (l).0 (g).0 (l).1 (g).1 in
+      fails_to e good s is solving (l).0 (l).1 (g).0 (g).1 q.0 q.1

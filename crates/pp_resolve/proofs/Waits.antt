@@ -1,25 +1,37 @@
--- Goals that were passed over, and the state in which they were known to wait.
-use Rattle.std.proofs.Common.{◌≡◌, ℕ, suc, ◌<◌, ◌≤◌, inl, List, [], ◌∷◌, ◌++◌, length, take, reverse, All, None, refl, ap, sym, ◌∙◌, subst, arith, length-append}
-use Rattle.std.proofs.lemmas.List.{take_all, take-append-le}
-use Rattle.std.proofs.lemmas.List.Elements.{All-nil, All-cons, All-head, All-tail}
+-- Suspended goals, and the state in which they were known to wait.
+use Rattle.std.proofs.Common.{◌≡◌, ℕ, zero, suc, ◌+◌, ◌<◌, ◌≤◌, inl, inr, true≢false, List, [], ◌∷◌, ◌++◌, length, take, drop, All, Option, Some, None, refl, ap, sym, ◌∙◌, subst, arith, length-append}
+use Rattle.std.specs.List.{slice_get}
+use Rattle.std.proofs.lemmas.Option.{slice_get_within}
+use Rattle.std.proofs.lemmas.List.{take_all}
+use Rattle.std.proofs.lemmas.List.Elements.{All-nil, All-cons, All-head, All-tail, All-weaker}
 use Rattle.pp_algebra.specs.Terms.{Tree, int, node, variable, Trees, none, more, put, put_all, variables, variables_all, count}
 use Rattle.pp_algebra.specs.Rows.{Row}
 use Rattle.pp_algebra.specs.Covers.{IsIn}
 use Rattle.pp_algebra.specs.Givens.{given, givens}
 use Rattle.pp_algebra.proofs.Order.{IsIn-left, IsIn-right}
+use Rattle.pp_moves.proofs.Places.{comes_all}
 use Rattle.pp_sld.specs.BuiltIns.{Decision, wait, fail, hold, split, bind, decide}
-use Rattle.pp_sld.specs.Goals.{Shape, user, equals, member, test, Goal, with_goals}
+use Rattle.pp_sld.specs.Goals.{Shape, user, equals, member, test, Goal, Predicate, put_goal}
 use Rattle.pp_sld.specs.Selection.{act_of, act_by}
 use Rattle.pp_term.specs.declared.clause.Clause.{Clause}
-use Rattle.pp_unify.specs.States.{present, value_in, IsLonger}
+use Rattle.pp_term.specs.declared.clause.Goal.{Goal as BodyGoal}
+use Rattle.pp_term.specs.declared.clause.Goal.TheVariants.{Call, Equate, Member, Compare}
+use Rattle.pp_term.specs.Meanings.{goal_of}
+use Rattle.pp_term.specs.WellFormed.{IsGoal}
+use Rattle.pp_unify.specs.States.{present, value_in}
 use Rattle.pp_unify.specs.Still.{AreStill}
-use Rattle.pp_unify.specs.Forests.{AreOver}
+use Rattle.pp_unify.specs.Forests.{AreOver, counted_all}
 use Rattle.pp_resolve.specs.declared.history.Rest.{Rest}
 use Rattle.pp_resolve.specs.declared.history.Waits.{Waits}
+use Rattle.pp_resolve.specs.declared.suspended.Suspension.{Suspension}
+use Rattle.pp_resolve.specs.Standing.{counted}
+use Rattle.pp_resolve.specs.Kept.{Kept}
 use Rattle.pp_resolve.specs.Acts.{does}
-use Rattle.pp_resolve.specs.Links.{first_of, passed}
-use Rattle.pp_resolve.specs.Engines.{Waited, DidWait, DoWait}
-use Rattle.pp_resolve.proofs.Linked.{along_still}
+use Rattle.pp_resolve.specs.Links.{goals_at, body_of, first_of, open_from, IsFormed, IsFormedAt, IsRest}
+use Rattle.pp_resolve.specs.Engines.{DoWait, IsSuspension, AreBelow, AreSuspended, WaitUpTo, DidWait}
+use Rattle.pp_resolve.proofs.Showing.{unmapped, all_at}
+use Rattle.pp_resolve.proofs.Linked.{first_is, goal_there, has_item}
+use Rattle.pp_resolve.proofs.Open.{open_at, slice_last}
 
 -- ===== the variables of a goal are what they were
 
@@ -50,67 +62,127 @@ module _ (k : ℕ) (r q : Row) (still : AreStill k r q) where
       ap (λ gs. act_of (put_all (value_in q) ts) (decide t gs)) (givens_still ts b)
       ∙ waits_too (put_all (value_in r) ts) (put_all (value_in q) ts) (decide t (givens r.domains (put_all (value_in r) ts))) h
 
-  pub all_still : (gs : List (Goal ℕ)) → All (Waited r k) gs → DoWait q gs
-  all_still [] h = All-nil (λ g. does q g ≡ None)
-  all_still (g ∷ gs) h =
-      let w = All-head (Waited r k) g gs h in
-      All-cons (λ x. does q x ≡ None) g gs (act_still g.arguments w.1 g.shape w.0) (all_still gs (All-tail (Waited r k) g gs h))
+  pub all_still : (gs : List (Goal ℕ)) → DoWait r gs → All (λ g. (v : ℕ) → IsIn v (variables_all g.arguments) → v < k) gs → DoWait q gs
+  all_still [] h b = All-nil (λ g. does q g ≡ None)
+  all_still (g ∷ gs) h b =
+      All-cons (λ x. does q x ≡ None) g gs
+      (act_still g.arguments (All-head (λ x. (v : ℕ) → IsIn v (variables_all x.arguments) → v < k) g gs b) g.shape (All-head (λ x. does r x ≡ None) g gs h))
+      (all_still gs (All-tail (λ x. does r x ≡ None) g gs h) (All-tail (λ x. (v : ℕ) → IsIn v (variables_all x.arguments) → v < k) g gs b))
 
--- ===== what waits, and over which variables
-
--- below the same number they wait in another row
-pub waited_now : (r q : Row) (k : ℕ) (gs : List (Goal ℕ)) → All (Waited r k) gs → DoWait q gs → All (Waited q k) gs
-waited_now r q k [] h d = All-nil (Waited q k)
-waited_now r q k (g ∷ gs) h d =
-    All-cons (Waited q k) g gs (All-head (λ x. does q x ≡ None) g gs d, (All-head (Waited r k) g gs h).1)
-    (waited_now r q k gs (All-tail (Waited r k) g gs h) (All-tail (λ x. does q x ≡ None) g gs d))
-
-pub waited_over : (r : Row) (gs after : List (Goal ℕ)) (calls : Trees ℕ) → AreOver r (with_goals (gs ++ after) calls) → DoWait r gs → All (Waited r (count r.columns)) gs
-waited_over r [] after calls o d = All-nil (Waited r (count r.columns))
-waited_over r (g ∷ gs) after calls o d =
-    let others = variables_all (with_goals (gs ++ after) calls) in
-    All-cons (Waited r (count r.columns)) g gs (All-head (λ x. does r x ≡ None) g gs d, λ v i. o v (IsIn-left v (variables_all g.arguments) others i))
-    (waited_over r gs after calls (λ v i. o v (IsIn-right v (variables_all g.arguments) others i)) (All-tail (λ x. does r x ≡ None) g gs d))
-
-all_first : (P : Goal ℕ → Type 0) (xs ys : List (Goal ℕ)) → All P (xs ++ ys) → All P xs
-all_first P [] ys h = All-nil P
-all_first P (x ∷ xs) ys h = All-cons P x xs (All-head P x (xs ++ ys) h) (all_first P xs ys (All-tail P x (xs ++ ys) h))
+-- what waits is no call
+pub no_call : (r : Row) (ts : Trees ℕ) (s : Shape) → act_by r.domains ts s ≡ None → (p : Predicate) → s ≡ user p → ⊥
+no_call r ts (user q) h p e = absurd (cc h)
+no_call r ts equals h p e = absurd (cc e)
+no_call r ts (member d) h p e = absurd (cc e)
+no_call r ts (test t) h p e = absurd (cc e)
 
 module _ (cs : List Clause) (root : Goal ℕ) where
-  -- later states
-  pub waits_longer : (rs later : List Row) (ls : List Rest) (n : ℕ) (w : Waits) → IsLonger rs later → DidWait cs root rs ls n w → DidWait cs root later ls n w
-  waits_longer rs later ls n w k d =
-      let same : take (suc w.since) later ≡ take (suc w.since) rs = ap (take (suc w.since)) k.1 ∙ take-append-le (suc w.since) rs k.0 (omega (arith, d.there)) in
-      record {
-        there = omega (arith, d.there, ap length k.1, length-append rs k.0);
-        below = subst (λ xs. w.below ≤ count (present xs).columns) (sym same) d.below;
-        goals = subst (λ xs. All (Waited (present xs) w.below) (passed cs root (reverse ls) n)) (sym same) d.goals;
-      }
+  -- the first so many wait still where no variable below the number of the last of them has changed
+  pub wait_up_to : (r q : Row) (ss : List Suspension) (ds : List ℕ) (n i : ℕ) (t : Suspension) → ((i j : ℕ) (s t : Suspension) → slice_get ss i ≡ Some s → slice_get ss j ≡ Some t → i ≤ j → AreBelow cs root t.below s.rest)
+      → slice_get ss i ≡ Some t → suc i ≤ n → WaitUpTo cs root r ss ds n → AreStill t.below r q → WaitUpTo cs root q ss ds (suc i)
+  wait_up_to r q ss ds n i t below at le w still j s is l o = all_still t.below r q still (first_of cs root s.rest) (w j s is (omega (arith, l, le)) o) (below j i s t is at (omega (arith, l)))
 
-  -- links that come behind
-  pub waits_linked : (rs : List Row) (ls ms extra : List Rest) (n : ℕ) (w : Waits) → ms ≡ ls ++ extra → n ≤ length ls → DidWait cs root rs ls n w → DidWait cs root rs ms n w
-  waits_linked rs ls ms extra n w e l d = record {
-    there = d.there;
-    below = d.below;
-    goals = subst (All (Waited (present (take (suc w.since) rs)) w.below)) (sym (along_still (λ l gs. gs ++ first_of cs root l) ls ms extra n e l)) d.goals;
-  }
-
-  -- the first of them
-  pub waits_first : (rs : List Row) (ls : List Rest) (n m : ℕ) (w : Waits) (gs : List (Goal ℕ)) → passed cs root (reverse ls) n ≡ passed cs root (reverse ls) m ++ gs → DidWait cs root rs ls n w → DidWait cs root rs ls m w
-  waits_first rs ls n m w gs e d =
-      let P : Goal ℕ → Type 0 = Waited (present (take (suc w.since) rs)) w.below in
-      record {
-        there = d.there;
-        below = d.below;
-        goals = all_first P (passed cs root (reverse ls) m) gs (subst (All P) e d.goals);
-      }
+  -- one more that waits
+  pub wait_more : (r : Row) (ss : List Suspension) (ds : List ℕ) (t : Suspension) → WaitUpTo cs root r ss ds (length ss) → DoWait r (first_of cs root t.rest) → WaitUpTo cs root r (ss ++ t ∷ []) ds (length (ss ++ t ∷ []))
+  wait_more r ss ds t w h j s is l o = slice_last ss t j s is (DoWait r (first_of cs root s.rest)) (λ old. w j s old (slice_get_within ss j s old) o) (λ e same. subst (λ x. DoWait r (first_of cs root x.rest)) (sym same) h)
 
   -- they wait in the present state
-  pub waits_present : (rs : List Row) (ls : List Rest) (n : ℕ) (w : Waits) → suc w.since ≡ length rs → w.below ≤ count (present rs).columns → All (Waited (present rs) w.below) (passed cs root (reverse ls) n) → DidWait cs root rs ls n w
-  waits_present rs ls n w m b h =
-      let same : take (suc w.since) rs ≡ rs = take_all (suc w.since) rs (omega (arith, m)) in
+  pub waits_present : (k : Kept) (w : Waits) → suc w.since ≡ length k.states → w.upto ≤ length k.suspended → ((j : ℕ) (s : Suspension) → slice_get k.suspended j ≡ Some s → s.below ≤ count (present k.states).columns)
+      → WaitUpTo cs root (present k.states) k.suspended k.done w.upto → DidWait cs root k w
+  waits_present k w m u b h =
+      let same : take (suc w.since) k.states ≡ k.states = take_all (suc w.since) k.states (omega (arith, m)) in
       record {
         there = omega (arith, m);
-        below = subst (λ xs. w.below ≤ count (present xs).columns) (sym same) b;
-        goals = subst (λ xs. All (Waited (present xs) w.below) (passed cs root (reverse ls) n)) (sym same) h;
+        upto = u;
+        below = λ j s is l. subst (λ xs. s.below ≤ count (present xs).columns) (sym same) (b j s is);
+        goals = subst (λ xs. WaitUpTo cs root (present xs) k.suspended k.done w.upto) (sym same) h;
       }
+
+  -- a greater number is above them too
+  pub above_bound : (k m : ℕ) (l : Rest) → k ≤ m → AreBelow cs root k l → AreBelow cs root m l
+  above_bound k m l le b = All-weaker (λ g. (v : ℕ) → IsIn v (variables_all g.arguments) → v < k) (λ g. (v : ℕ) → IsIn v (variables_all g.arguments) → v < m) (λ g h v i. omega (arith, le, h v i)) (first_of cs root l) b
+
+  -- one more is suspended
+  pub suspended_more : (r : Row) (ss : List Suspension) (ds : List ℕ) (t : Suspension) → AreSuspended cs root r ss ds → IsSuspension cs root t → AreBelow cs root t.below t.rest → t.below ≤ count r.columns
+      → ((j : ℕ) (s : Suspension) → slice_get ss j ≡ Some s → length ss ≡ suc j → s.below ≤ t.below) → AreSuspended cs root r (ss ++ t ∷ []) ds
+  suspended_more r ss ds t h one own size last = record {
+    goals = λ j s is. slice_last ss t j s is (IsSuspension cs root s) (λ old. h.goals j s old) (λ e same. subst (IsSuspension cs root) (sym same) one);
+    below = below;
+    sized = λ j s is. slice_last ss t j s is (s.below ≤ count r.columns) (λ old. h.sized j s old) (λ e same. subst (λ x. x.below ≤ count r.columns) (sym same) size);
+    done = λ i e. let d = h.done i e in let n = length-append ss (t ∷ []) in omega (arith, d, n);
+  }
+    where
+      old_below : (i : ℕ) (s : Suspension) → slice_get ss i ≡ Some s → (n : ℕ) → n ≡ length ss → AreBelow cs root t.below s.rest
+      old_below i s is zero e = absurd (omega (arith, e, slice_get_within ss i s is))
+      old_below i s is (suc j) e =
+          let w = slice_get_within ss i s is in
+          let u = has_item ss j (omega (arith, e)) in
+          above_bound u.0.below t.below s.rest (last j u.0 u.1 (sym e)) (h.below i j s u.0 is u.1 (omega (arith, w, e)))
+
+      below : (i j : ℕ) (s u : Suspension) → slice_get (ss ++ t ∷ []) i ≡ Some s → slice_get (ss ++ t ∷ []) j ≡ Some u → i ≤ j → AreBelow cs root u.below s.rest
+      below i j s u is at le = slice_last ss t j u at (AreBelow cs root u.below s.rest)
+          (λ old. slice_last ss t i s is (AreBelow cs root u.below s.rest) (λ known. h.below i j s u known old le) (λ e same. absurd (omega (arith, e, le, slice_get_within ss j u old))))
+          (λ e same. subst (λ x. AreBelow cs root x.below s.rest) (sym same) (slice_last ss t i s is (AreBelow cs root t.below s.rest)
+          (λ known. old_below i s known (length ss) refl)
+          (λ f this. subst (λ x. AreBelow cs root t.below x.rest) (sym this) own)))
+
+  pub none_suspended : (r : Row) → AreSuspended cs root r [] []
+  none_suspended r = record {
+    goals = λ j s e. absurd (cc e);
+    below = λ i j s t e f l. absurd (cc e);
+    sized = λ j s e. absurd (cc e);
+    done = λ i e. absurd (true≢false (sym e));
+  }
+
+  -- where none is open all wait
+  pub none_open : (r : Row) (ss : List Suspension) (ds : List ℕ) → AreSuspended cs root r ss ds → length (open_from cs root ds 0 ss) ≡ 0 → WaitUpTo cs root r ss ds (length ss)
+  none_open r ss ds h z j s is l o =
+      let t = h.goals j s is in
+      let g = goal_there cs root 0 s.rest t.rest t.some in
+      let split = ap length (open_at cs root ds ss j s is o) in
+      let start = open_from cs root ds 0 (take j ss) in
+      let tail = open_from cs root ds (suc j) (drop (suc j) ss) in
+      let size : length (start ++ (first_of cs root s.rest ++ tail)) ≡ length start + length (first_of cs root s.rest ++ tail) = length-append start (first_of cs root s.rest ++ tail) in
+      let more : length (first_of cs root s.rest ++ tail) ≡ suc (length tail) = ap (λ gs. length (gs ++ tail)) (first_is cs root s.rest g.0 g.1) in
+      absurd (omega (arith, z, split, size, more))
+
+  -- ===== a number above the variables of a goal
+
+  goal_below : (n : ℕ) (g : BodyGoal) → IsGoal n g → (v : ℕ) → IsIn v (variables_all (goal_of g).arguments) → v < n
+  goal_below n (Call s ts) h v i = h.below v i
+  goal_below n (Equate a b) h v i = h v i
+  goal_below n (Member t d) h v i = h v i
+  goal_below n (Compare r a b) h v i = h v i
+
+  counted_below : (first vars : ℕ) (ts : Trees ℕ) → ((v : ℕ) → IsIn v (variables_all ts) → v < vars) → (v : ℕ) → IsIn v (variables_all (put_all (counted first) ts)) → v < first + vars
+  counted_below first vars ts b v i =
+      let f = comes_all (counted first) ts v i in
+      elim f.2 [
+        | inl e ↦ omega (arith, e, b f.0 f.1)
+        | inr j ↦ absurd j
+      ]
+
+  -- by the clause in whose body it stands
+  pub clause_bound : (l : Rest) (n : ℕ) → l.body ≡ Some n → IsRest cs root 0 (record { body = l.body; from = l.from; to = l.to; first = l.first; next = 0 }) → l.from < l.to → (c : Clause) × (slice_get cs n ≡ Some c) × AreBelow cs root (l.first + c.vars) l
+  clause_bound l n b r w =
+      let g = goal_there cs root 0 (record { body = l.body; from = l.from; to = l.to; first = l.first; next = 0 }) r w in
+      go (slice_get cs n) refl (subst (IsFormed cs) b r.formed) g.0 g.1 (subst (λ x. slice_get (body_of cs root x) l.from ≡ Some g.0) b g.1)
+    where
+      go : (o : Option Clause) → slice_get cs n ≡ o → IsFormedAt o → (g : Goal ℕ) → slice_get (body_of cs root l.body) l.from ≡ Some g → slice_get (goals_at (slice_get cs n)) l.from ≡ Some g
+          → (c : Clause) × (slice_get cs n ≡ Some c) × AreBelow cs root (l.first + c.vars) l
+      go None s f g at x = absurd f
+      go (Some c) s f g at x =
+          let u = unmapped goal_of c.body l.from g (ap (λ o. slice_get (goals_at o) l.from) (sym s) ∙ x) in
+          let its = goal_below c.vars u.0 (all_at (IsGoal c.vars) c.body l.from u.0 f.body u.1) in
+          let below : (v : ℕ) → IsIn v (variables_all g.arguments) → v < c.vars = subst (λ y. (v : ℕ) → IsIn v (variables_all y.arguments) → v < c.vars) u.2 its in (
+            c,
+            s,
+            subst (All (λ y. (v : ℕ) → IsIn v (variables_all y.arguments) → v < l.first + c.vars)) (sym (first_is cs root l g at))
+                (All-cons (λ y. (v : ℕ) → IsIn v (variables_all y.arguments) → v < l.first + c.vars) (put_goal (counted l.first) g) [] (counted_below l.first c.vars g.arguments below) (All-nil (λ y. (v : ℕ) → IsIn v (variables_all y.arguments) → v < l.first + c.vars))),
+          )
+
+  -- by the row
+  pub row_bound : (r : Row) (l : Rest) (g : Goal ℕ) → slice_get (body_of cs root l.body) l.from ≡ Some g → AreOver r (counted_all l.first g.arguments) → AreBelow cs root (count r.columns) l
+  row_bound r l g at o =
+      subst (All (λ y. (v : ℕ) → IsIn v (variables_all y.arguments) → v < count r.columns)) (sym (first_is cs root l g at))
+      (All-cons (λ y. (v : ℕ) → IsIn v (variables_all y.arguments) → v < count r.columns) (put_goal (counted l.first) g) [] o (All-nil (λ y. (v : ℕ) → IsIn v (variables_all y.arguments) → v < count r.columns)))

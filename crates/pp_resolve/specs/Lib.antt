@@ -1,4 +1,6 @@
 pub mod Standing
+pub mod Suspensions
+pub mod Kept
 pub mod Links
 pub mod Frames
 pub mod Shown

@@ -1,5 +1,5 @@
--- The goals that a branch still has to do: those that wait, and behind them what is left of bodies, each a link that names an earlier one.
-use Rattle.std.specs.Prelude.{ℕ, suc, ◌-◌, ◌^◌, ◌<◌, ◌≤◌, cond, nat_eq, List, [], ◌∷◌, ◌++◌, length, map, take, drop, reverse, Option, Some, None}
+-- The goals that a branch still has to do: those that are suspended, and behind them what is left of bodies, each a link that names an earlier one.
+use Rattle.std.specs.Prelude.{ℕ, suc, ◌+◌, ◌-◌, ◌^◌, ◌<◌, ◌≤◌, cond, nat_eq, List, [], ◌∷◌, ◌++◌, length, map, take, drop, reverse, Option, Some, None}
 use Rattle.std.specs.List.{slice_get}
 use Rattle.pp_sld.specs.Goals.{Goal, put_goal}
 use Rattle.pp_term.specs.declared.clause.Clause.{Clause}
@@ -7,7 +7,10 @@ use Rattle.pp_term.specs.Meanings.{goal_of}
 use Rattle.pp_term.specs.WellFormed.{IsClause}
 use Rattle.pp_resolve.specs.declared.history.Rest.{Rest}
 use Rattle.pp_resolve.specs.declared.history.Front.{Front}
+use Rattle.pp_resolve.specs.declared.suspended.Suspension.{Suspension}
 use Rattle.pp_resolve.specs.Standing.{counted}
+use Rattle.pp_resolve.specs.Suspensions.{is_among}
+use Rattle.pp_resolve.specs.Kept.{Kept}
 
 abbrev pub goals_at : Option Clause → List (Goal ℕ)
 goals_at None = []
@@ -21,6 +24,10 @@ IsFormedAt (Some c) = IsClause c
 abbrev pub IsFormed : List Clause → Option ℕ → Type 0
 IsFormed cs None = Unit {0}
 IsFormed cs (Some n) = IsFormedAt (slice_get cs n)
+
+-- the same without the first goal
+abbrev pub after_first : Rest → Rest
+after_first l = record { body = l.body; from = l.from + 1; to = l.to; first = l.first; next = l.next }
 
 -- what the links from this one on come to; the link made last stands first in the list, and 0 is no link
 abbrev pub along : (Rest → List (Goal ℕ) → List (Goal ℕ)) → List Rest → ℕ → List (Goal ℕ)
@@ -45,16 +52,27 @@ module _ (cs : List Clause) (root : Goal ℕ) where
   abbrev pub below : List Rest → ℕ → List (Goal ℕ)
   below = along (λ l gs. piece l ++ gs)
 
-  -- what waits: each link stands for its first goal, behind those of the link that it names
-  abbrev pub passed : List Rest → ℕ → List (Goal ℕ)
-  passed = along (λ l gs. gs ++ first_of l)
+  -- what is suspended and not done, the places counted from a first one
+  abbrev pub open_from : List ℕ → ℕ → List Suspension → List (Goal ℕ)
+  open_from ds n [] = []
+  open_from ds n (s ∷ ss) = cond (is_among n ds) [] (first_of s.rest) ++ open_from ds (suc n) ss
 
   abbrev pub goals_in : List Rest → Rest → List (Goal ℕ)
   goals_in links l = piece l ++ below (reverse links) l.next
 
   -- all goals
-  abbrev pub goals_of : List Rest → Front → List (Goal ℕ)
-  goals_of links f = passed (reverse links) f.passed ++ goals_in links f.rest
+  abbrev pub goals_of : Kept → Front → List (Goal ℕ)
+  goals_of k f = open_from k.done 0 k.suspended ++ goals_in k.links f.rest
+
+  -- the goals before a place: before a suspended one, or before those that are left
+  abbrev pub before : Kept → Option ℕ → List (Goal ℕ)
+  before k None = open_from k.done 0 k.suspended
+  before k (Some i) = open_from k.done 0 (take i k.suspended)
+
+  -- the goals behind it
+  abbrev pub after : Kept → Front → Option ℕ → List (Goal ℕ)
+  after k f None = goals_in k.links (after_first f.rest)
+  after k f (Some i) = open_from k.done (suc i) (drop (suc i) k.suspended) ++ goals_in k.links f.rest
 
   -- places in a body, before so many links
   pub record IsRest (n : ℕ) (l : Rest) : Type 0 where

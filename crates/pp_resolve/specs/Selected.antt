@@ -1,4 +1,4 @@
--- The selected goal, where it stands among those that were passed over and those that are left.
+-- The selected goal, where it stands among those that are suspended and those that are left.
 use Rattle.std.specs.Prelude.{◌≡◌, ℕ, ◌<◌, List, ◌∷◌, ◌++◌, length}
 use Rattle.pp_sld.specs.Goals.{Goal, put_goal}
 use Rattle.pp_clause.specs.declared.first.First.{First}
@@ -8,12 +8,13 @@ use Rattle.pp_goal.specs.declared.acts.Act.TheVariants.{Wait}
 use Rattle.pp_resolve.specs.declared.history.Rest.{Rest}
 use Rattle.pp_resolve.specs.declared.engine.Engine.{Engine}
 use Rattle.pp_resolve.specs.Standing.{counted}
+use Rattle.pp_resolve.specs.Kept.{kept_of}
 use Rattle.pp_resolve.specs.Links.{goals_of, IsRest}
 use Rattle.pp_resolve.specs.Acts.{placed}
 use Rattle.pp_resolve.specs.Engines.{goal_of, row_of, DoWait, IsGoalAt, Looks}
 
 abbrev pub all_goals : Engine → List (Goal ℕ)
-all_goals e = goals_of e.clauses.now (goal_of e) e.history.links.items e.front
+all_goals e = goals_of e.clauses.now (goal_of e) (kept_of e.history) e.front
 
 abbrev pub AllGoalsWait : Engine → Type 0
 AllGoalsWait e = DoWait (row_of e) (all_goals e)

@@ -1,5 +1,5 @@
 //! An alternative of the selected goal is taken.
-ghost use Rattle.std.specs.Prelude.{◌≡◌, ◌≢◌, ◌<◌, ◌+◌, ℕ, Some, false, length, slice_get, IfOk, OnErr};
+ghost use Rattle.std.specs.Prelude.{◌≡◌, ◌<◌, ◌+◌, Some, None, false, length, slice_get, IfOk, OnErr};
 ghost use Rattle.pp_algebra.specs.Terms.{count};
 ghost use Rattle.pp_row.specs.Columns.{trees_of};
 ghost use Rattle.pp_row.specs.Reading.{forest};
@@ -8,18 +8,15 @@ ghost use Rattle.pp_term.specs.Meanings.{program};
 ghost use Rattle.pp_term.specs.WellFormed.{IsClause};
 ghost use Rattle.pp_unify.specs.States.{present, with_many, IsLonger};
 ghost use Rattle.pp_unify.specs.Forests.{AreDecided, pairs};
-ghost use Rattle.pp_algebra.specs.Members.{IsInteger};
-ghost use Rattle.pp_sld.specs.Selection.{at_place};
-ghost use Rattle.pp_goal.specs.Arguments.{IsLent, terms_of};
-ghost use Rattle.pp_goal.specs.declared.acts.Act.TheVariants.{Call, Split, Wait};
+ghost use Rattle.pp_goal.specs.Arguments.{IsLent};
+ghost use Rattle.pp_goal.specs.declared.acts.Act.TheVariants.{Call, Split};
 ghost use Rattle.pp_walk.specs.Moves.{HasChoice, Chose, Committed};
-ghost use Rattle.pp_resolve.specs.Events.{Took, IsNext};
-ghost use Rattle.pp_resolve.specs.Engines.{place_of, AllWait, IsGood, IsSameSearch, Sees};
+ghost use Rattle.pp_resolve.specs.Events.{selected_as, Took, IsNext};
+ghost use Rattle.pp_resolve.specs.Engines.{place_of, IsGood, IsSameSearch, IsMet};
 
 use crate::engine::Engine;
-use crate::history::Rest;
+use crate::history::{Rest, Selected};
 use crate::root::goal_at;
-use crate::step::solve;
 use pp_clause::{Clauses, GoalAt};
 use pp_goal::{Act, split_value};
 use pp_unify::Bindings;
@@ -62,30 +59,11 @@ fn enter(
     }
 }
 
-/// Makes a goal's only argument equal to an integer; false where nothing does, and then nothing is changed.
-fn set_first(
-    bindings: &mut Bindings,
-    goal: &GoalAt<'_>,
-    first: u32,
-    value: i64,
-) -> Result<bool, AllocError>
-    requires lent { IsLent (present bindings.old) goal.now first }
-    requires one { count (forest goal.now.arguments.now) ≡ 1 }
-    requires integer { IsInteger value }
-    ensures decided { IfOk result (λ b. AreDecided (present bindings.old) (at_place 0 value (terms_of goal.now first)) b (present bindings.new)) }
-    ensures kept { IsLonger bindings.old bindings.new }
-    ensures stays { IfOk result (λ b. b ≡ false → bindings.new ≡ bindings.old) }
-    ensures err { OnErr result (bindings.new ≡ bindings.old) }
-{
-    solve(bindings, goal, first, Act::Bind(0, value))
-}
-
 impl<'a> Engine<'a> {
     /// Enters the clause at a place, whose body comes before the goals of the link `next`.
     fn enter_body(&mut self, predicate: u32, place: u32, next: u32) -> Result<bool, AllocError>
         requires good { IsGood self.old }
-        requires wait { AllWait self.old }
-        requires sees { Sees self.old (Some (Call predicate)) }
+        requires met { IsMet self.old (selected_as None (Call predicate)) }
         requires choice { HasChoice (program self.old.clauses.now) (place_of self.old).here place }
         requires next { IsNext self.old next }
         ensures good { IsGood self.new }
@@ -123,8 +101,7 @@ impl<'a> Engine<'a> {
     /// Calls the clause at a place of the predicate.
     fn call(&mut self, predicate: u32, place: u32) -> Result<bool, AllocError>
         requires good { IsGood self.old }
-        requires wait { AllWait self.old }
-        requires sees { Sees self.old (Some (Call predicate)) }
+        requires met { IsMet self.old (selected_as None (Call predicate)) }
         requires choice { HasChoice (program self.old.clauses.now) (place_of self.old).here place }
         ensures good { IsGood self.new }
         ensures same { IsSameSearch self.old self.new }
@@ -141,10 +118,9 @@ impl<'a> Engine<'a> {
     }
 
     /// Makes the argument of the selected goal equal to the value at a place.
-    fn take_value(&mut self, place: u64) -> Result<bool, AllocError>
+    fn take_value(&mut self, at: Option<usize>, place: u64) -> Result<bool, AllocError>
         requires good { IsGood self.old }
-        requires wait { AllWait self.old }
-        requires sees { Sees self.old (Some Split) }
+        requires met { IsMet self.old (selected_as at Split) }
         requires choice { HasChoice (program self.old.clauses.now) (place_of self.old).here place }
         ensures good { IsGood self.new }
         ensures same { IsSameSearch self.old self.new }
@@ -152,23 +128,15 @@ impl<'a> Engine<'a> {
         ensures took { IfOk result (λ b. Took self.old place b self.new) }
         ensures err { OnErr result (place_of self.new ≡ place_of self.old) }
     {
-        let rest = self.front.rest;
-        let goal = goal_at(self.clauses, &self.root, rest);
-        let value = split_value(&self.history.bindings, &goal, rest.first, place);
-        let equal = set_first(&mut self.history.bindings, &goal, rest.first, value)?;
-        if equal {
-            self.front.rest.from += 1;
-            self.front.selected = None;
-        }
-        Ok(equal)
+        let rest = self.rest_at(at);
+        let value = split_value(&self.history.bindings, &self.goal(rest), rest.first, place);
+        self.solve_at(at, Act::Bind(0, value))
     }
 
-    /// Goes the way of the alternative at a place by what is done with the selected goal.
-    fn take_by(&mut self, act: Act, place: u64) -> Result<bool, AllocError>
+    /// Goes the way of the alternative at a place of the selected goal.
+    fn take_by(&mut self, selected: Selected, place: u64) -> Result<bool, AllocError>
         requires good { IsGood self.old }
-        requires wait { AllWait self.old }
-        requires sees { Sees self.old (Some act) }
-        requires ready { Some act ≢ Some Wait }
+        requires met { IsMet self.old selected }
         requires choice { HasChoice (program self.old.clauses.now) (place_of self.old).here place }
         ensures good { IsGood self.new }
         ensures same { IsSameSearch self.old self.new }
@@ -176,12 +144,16 @@ impl<'a> Engine<'a> {
         ensures took { IfOk result (λ b. Took self.old place b self.new) }
         ensures err { OnErr result (place_of self.new ≡ place_of self.old) }
     {
-        match act {
+        match selected.act {
             Act::Call(predicate) => {
+                let None = selected.at else {
+                    // A suspended goal is no call.
+                    return Ok(false);
+                };
                 let place = u32::try_from(place).map_err(|_| AllocError)?;
                 self.call(predicate, place)
             }
-            Act::Split => self.take_value(place),
+            Act::Split => self.take_value(selected.at, place),
             _ => Ok(false),
         }
     }
@@ -196,12 +168,10 @@ impl<'a> Engine<'a> {
         ensures took { IfOk result (λ b. Took self.old place b self.new) }
         ensures err { OnErr result (place_of self.new ≡ place_of self.old) }
     {
-        if self.front.selected.is_none() {
-            self.select()?;
-        }
+        self.select()?;
         match self.front.selected {
             None => Ok(false),
-            Some(act) => self.take_by(act, place),
+            Some(selected) => self.take_by(selected, place),
         }
     }
 

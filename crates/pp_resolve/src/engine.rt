@@ -2,8 +2,10 @@
 ghost use Rattle.std.specs.Prelude.{◌≡◌, ◌<◌, [], ◌∷◌, ◌++◌, true, false, length, IfOk, OnOk, OnErr, IsTrue};
 ghost use Rattle.pp_algebra.specs.Covers.{RowCovers};
 ghost use Rattle.pp_sld.specs.Leaves.{leaf_row};
+ghost use Rattle.pp_resolve.specs.Kept.{kept_of};
 ghost use Rattle.pp_resolve.specs.Links.{IsRest};
-ghost use Rattle.pp_resolve.specs.Engines.{goal_of, place_of, IsKept, IsGood, IsSameSearch, IsSamePlace, HasMoreLinks, IsLinkOf};
+ghost use Rattle.pp_resolve.specs.Engines.{goal_of, row_of, place_of, IsKept, IsGood, IsSameSearch, IsSamePlace, IsPlaceOf, BeginsAt, HasMoreLinks, IsLinkOf};
+ghost use Rattle.pp_resolve.specs.Events.{without};
 
 use crate::history::{Front, History, Rest};
 use crate::root::Root;
@@ -53,6 +55,46 @@ impl<'a> Engine<'a> {
         }
     }
 
+    /// The goals that begin with the one at this place: a suspended one, or the first that is left.
+    pub(crate) fn rest_at(&self, at: Option<usize>) -> Rest
+        requires there { IsPlaceOf self.now at }
+        ensures { BeginsAt self.now at result }
+    {
+        match at {
+            None => self.front.rest,
+            Some(place) => self.history.suspended.goals[place].rest,
+        }
+    }
+
+    /// Takes the goal at this place away.
+    pub(crate) fn leave(&mut self, at: Option<usize>) -> Result<(), AllocError>
+        requires good { IsGood self.old }
+        requires there { IsPlaceOf self.old at }
+        ensures good { IsGood self.new }
+        ensures same { IsSameSearch self.old self.new }
+        ensures bindings { self.new.history.bindings ≡ self.old.history.bindings }
+        ensures above { (place_of self.new).above ≡ (place_of self.old).above }
+        ensures choices { self.new.history.choices ≡ self.old.history.choices }
+        ensures left { OnOk result ((place_of self.new).here ≡ without self.old at (row_of self.old)) }
+        ensures err { OnErr result (place_of self.new ≡ place_of self.old) }
+        ensures kept { OnErr result (kept_of self.new.history ≡ kept_of self.old.history) }
+        ensures front { OnErr result (self.new.front ≡ self.old.front) }
+    {
+        match at {
+            None => {
+                self.front.rest.from += 1;
+                self.front.selected = None;
+                Ok(())
+            }
+            Some(place) => {
+                self.history.resume(place)?;
+                self.front.waiting -= 1;
+                self.front.selected = None;
+                Ok(())
+            }
+        }
+    }
+
     /// Puts a link behind the others, and answers its number.
     pub(crate) fn link(&mut self, rest: Rest) -> Result<u32, AllocError>
         requires good { IsGood self.old }
@@ -60,6 +102,7 @@ impl<'a> Engine<'a> {
         requires some { rest.from < rest.to }
         ensures same { IsSamePlace self.old self.new }
         ensures front { self.new.front ≡ self.old.front }
+        ensures suspended { self.new.history.suspended ≡ self.old.history.suspended }
         ensures number { IfOk result (λ n. n ≡ length self.new.history.links.items) }
         ensures links { OnOk result (self.new.history.links.items ≡ self.old.history.links.items ++ rest ∷ []) }
         ensures more { HasMoreLinks self.old self.new }
@@ -76,6 +119,7 @@ impl<'a> Engine<'a> {
         requires rest { IsRest self.old.clauses.now (goal_of self.old) (length self.old.history.links.items) rest }
         ensures same { IsSamePlace self.old self.new }
         ensures front { self.new.front ≡ self.old.front }
+        ensures suspended { self.new.history.suspended ≡ self.old.history.suspended }
         ensures links { HasMoreLinks self.old self.new }
         ensures number { IfOk result (λ n. IsLinkOf self.old self.new rest n) }
     {

@@ -1,7 +1,10 @@
 //! The states that a machine can go back to.
-ghost use Rattle.std.specs.Prelude.{◌≡◌, ◌++◌, [], ◌∷◌, OnOk, OnErr};
+ghost use Rattle.std.specs.Prelude.{◌≡◌, ◌<◌, ◌++◌, [], ◌∷◌, false, length, OnOk, OnErr};
+ghost use Rattle.pp_resolve.specs.Suspensions.{is_among};
+ghost use Rattle.pp_resolve.specs.Kept.{kept_of};
 ghost use Rattle.pp_resolve.specs.Frames.{frame_of, frames_of, IsFit, IsTaken};
 
+use crate::suspended::{Suspended, Suspension};
 use pp_goal::Act;
 use pp_unify::{Bindings, Mark};
 use std::alloc::{AllocError, Global};
@@ -18,38 +21,47 @@ pub(crate) struct Rest {
     pub(crate) next: u32,
 }
 
-/// The state since which goals are known to wait, and a number above all their variables.
+/// The state since which the suspended goals before a place are known to wait.
 #[derive(Clone, Copy, Debug, PartialEq, Eq)]
 pub(crate) struct Waits {
     pub(crate) since: Mark,
-    pub(crate) below: usize,
+    pub(crate) upto: usize,
 }
 
-/// What a branch still has to do: the link of the goals that were passed over because they wait, since when they are
-/// known to, the goals that are left, and how many calls may follow. Where the first goal that is left is known to be
-/// the selected one, it is kept what is done with it.
+/// The selected goal: the suspended one at a place, or the first one that is left; and what is done with it.
+#[derive(Clone, Copy, Debug, PartialEq, Eq)]
+pub(crate) struct Selected {
+    pub(crate) at: Option<usize>,
+    pub(crate) act: Act,
+}
+
+/// What a branch still has to do: how many goals are suspended, since when they are known to wait, the goals that are
+/// left, and how many calls may follow. Where the selected goal is known it is kept.
 #[derive(Clone, Copy, Debug, PartialEq, Eq)]
 pub(crate) struct Front {
-    pub(crate) passed: u32,
+    pub(crate) waiting: usize,
     pub(crate) waits: Waits,
     pub(crate) rest: Rest,
     pub(crate) depth: u32,
-    pub(crate) selected: Option<Act>,
+    pub(crate) selected: Option<Selected>,
 }
 
-/// A state that was left by a choice: how many states and links there were, and what was to do.
+/// A state that was left by a choice: how much of each list was there, and what was to do.
 #[derive(Clone, Copy, Debug, PartialEq, Eq)]
 pub(crate) struct Choice {
     pub(crate) mark: Mark,
     pub(crate) links: usize,
+    pub(crate) suspended: usize,
+    pub(crate) done: usize,
     pub(crate) front: Front,
 }
 
-/// The bindings, the links of goals, and the choices taken.
+/// The bindings, the links of goals, the goals that are suspended, and the choices taken.
 #[derive(Debug, Drop)]
 pub(crate) struct History {
     pub(crate) bindings: Bindings,
     pub(crate) links: Vec<Rest>,
+    pub(crate) suspended: Suspended,
     pub(crate) choices: Vec<Choice>,
 }
 
@@ -60,10 +72,13 @@ impl History {
         ensures frames { frames_of result ≡ [] }
         ensures bindings { result.bindings ≡ bindings }
         ensures links { result.links.items ≡ [] }
+        ensures suspended { result.suspended.goals.items ≡ [] }
+        ensures done { result.suspended.done.items ≡ [] }
     {
         History {
             bindings,
             links: Vec::new(alloc),
+            suspended: Suspended::new(alloc),
             choices: Vec::new(alloc),
         }
     }
@@ -74,12 +89,19 @@ impl History {
         ensures fit { IsFit self.new }
         ensures saved { OnOk result (frames_of self.new ≡ frame_of self.old front ∷ frames_of self.old) }
         ensures err { OnErr result (frames_of self.new ≡ frames_of self.old) }
-        ensures bindings { self.new.bindings ≡ self.old.bindings }
-        ensures links { self.new.links.items ≡ self.old.links.items }
+        ensures same { kept_of self.new ≡ kept_of self.old }
     {
         let mark = self.bindings.mark();
         let links = self.links.len();
-        self.choices.push(Choice { mark, links, front })?;
+        let suspended = self.suspended.goals.len();
+        let done = self.suspended.done.len();
+        self.choices.push(Choice {
+            mark,
+            links,
+            suspended,
+            done,
+            front,
+        })?;
         Ok(())
     }
 
@@ -89,10 +111,44 @@ impl History {
         ensures fit { IsFit self.new }
         ensures frames { frames_of self.new ≡ frames_of self.old }
         ensures bindings { self.new.bindings ≡ self.old.bindings }
+        ensures suspended { self.new.suspended ≡ self.old.suspended }
         ensures links { OnOk result (self.new.links.items ≡ self.old.links.items ++ rest ∷ []) }
         ensures err { OnErr result (self.new.links.items ≡ self.old.links.items) }
     {
         self.links.push(rest)?;
+        Ok(())
+    }
+
+    /// Puts a suspended goal behind the others.
+    pub(crate) fn suspend(&mut self, goal: Suspension) -> Result<(), AllocError>
+        requires fit { IsFit self.old }
+        ensures fit { IsFit self.new }
+        ensures frames { frames_of self.new ≡ frames_of self.old }
+        ensures bindings { self.new.bindings ≡ self.old.bindings }
+        ensures links { self.new.links.items ≡ self.old.links.items }
+        ensures done { self.new.suspended.done.items ≡ self.old.suspended.done.items }
+        ensures goals { OnOk result (self.new.suspended.goals.items ≡ self.old.suspended.goals.items ++ goal ∷ []) }
+        ensures err { OnErr result (self.new.suspended.goals.items ≡ self.old.suspended.goals.items) }
+    {
+        self.suspended.push(goal)?;
+        Ok(())
+    }
+
+    /// The suspended goal at this place is done.
+    pub(crate) fn resume(&mut self, at: usize) -> Result<(), AllocError>
+        requires fit { IsFit self.old }
+        requires within { at < length self.old.suspended.goals.items }
+        requires undone { is_among at self.old.suspended.done.items ≡ false }
+        ensures fit { IsFit self.new }
+        ensures frames { frames_of self.new ≡ frames_of self.old }
+        ensures bindings { self.new.bindings ≡ self.old.bindings }
+        ensures links { self.new.links.items ≡ self.old.links.items }
+        ensures goals { self.new.suspended.goals.items ≡ self.old.suspended.goals.items }
+        ensures choices { self.new.choices ≡ self.old.choices }
+        ensures done { OnOk result (self.new.suspended.done.items ≡ self.old.suspended.done.items ++ at ∷ []) }
+        ensures err { OnErr result (self.new.suspended.done.items ≡ self.old.suspended.done.items) }
+    {
+        self.suspended.resume(at)?;
         Ok(())
     }
 
@@ -107,6 +163,7 @@ impl History {
             Some(choice) => {
                 self.bindings.undo(choice.mark);
                 self.links.truncate(choice.links);
+                self.suspended.cut(choice.suspended, choice.done);
                 Some(choice.front)
             }
         }

@@ -8,7 +8,9 @@ mod machine;
 mod place;
 mod root;
 mod select;
+mod solve;
 mod start;
 mod step;
+mod suspended;
 
 pub use machine::Machine;

@@ -4,7 +4,7 @@ ghost use Rattle.pp_resolve.specs.Selected.{AllGoalsWait, IsSelected, IsFirstOf}
 ghost use Rattle.pp_goal.specs.declared.acts.Act.TheVariants.{Call, Split};
 ghost use Rattle.pp_term.specs.Meanings.{program};
 ghost use Rattle.pp_walk.specs.Moves.{IsAtChoice, HasChoice, IsDeadAt, IsNextPlace, IsNext};
-ghost use Rattle.pp_resolve.specs.Engines.{place_of, goal_of, row_of, waiting, AllWait, DoWait, IsGood, IsGoalAt};
+ghost use Rattle.pp_resolve.specs.Engines.{place_of, goal_of, row_of, AllWait, IsGood, IsGoalAt};
 ghost use Rattle.pp_resolve.specs.Links.{IsRest, goals_in};
 ghost use Rattle.pp_resolve.specs.Shown.{IsShown};
 ghost use Rattle.pp_goal.specs.Arguments.{IsLent};
@@ -26,25 +26,6 @@ fn has_goals(rest: Rest) -> bool
 }
 
 impl<'a> Engine<'a> {
-    /// The leftmost goal that was passed over and doesn't wait any more, with what is done with it.
-    pub(crate) fn woken(&self) -> Option<(Rest, Act)>
-        requires good { IsGood self.now }
-        ensures found { MatchOption result (AllWait self.now) (IsSelected self.now) }
-        ensures before { IfSome result (λ p. (p.0.next ≤ length self.now.history.links.items) × DoWait (row_of self.now) (waiting self.now p.0.next)) }
-    {
-        let mut found = None;
-        let mut link = self.front.passed;
-        while link > 0 {
-            let rest = self.history.links[link as usize - 1];
-            let act = self.look(rest);
-            if act != Act::Wait {
-                found = Some((rest, act));
-            }
-            link = rest.next;
-        }
-        found
-    }
-
     /// The same goals, not at the end of a body.
     fn first_left(&self, rest: Rest) -> Rest
         requires good { IsGood self.now }
@@ -195,11 +176,11 @@ impl<'a> Engine<'a> {
         requires good { IsGood self.now }
         ensures { MatchOption result (AllGoalsWait self.now) (IsSelected self.now) }
     {
-        if let Some(act) = self.front.selected {
-            return Some((self.front.rest, act));
+        if let Some(selected) = self.front.selected {
+            return Some((self.rest_at(selected.at), selected.act));
         }
-        match self.woken() {
-            Some(found) => Some(found),
+        match self.woken_from(0) {
+            Some((at, act)) => Some((self.rest_at(Some(at)), act)),
             None => self.ready(),
         }
     }

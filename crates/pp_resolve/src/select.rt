@@ -1,17 +1,21 @@
 //! The goal that is selected: the leftmost one that doesn't wait.
-ghost use Rattle.std.specs.Prelude.{◌≡◌, ◌≢◌, ◌<◌, ◌≤◌, [], ℕ, suc, true, Some, length, IfOk, OnOk};
+ghost use Rattle.std.specs.Prelude.{◌≡◌, ◌<◌, ◌≤◌, [], ℕ, suc, true, Some, length, MatchOption, IfOk, OnOk};
+ghost use Rattle.pp_resolve.specs.Events.{selected_as};
+ghost use Rattle.std.specs.List.{slice_get};
 ghost use Rattle.pp_algebra.specs.Terms.{count};
 ghost use Rattle.pp_sld.specs.Goals.{Goal};
 ghost use Rattle.pp_unify.specs.Forests.{AreOver, counted_all};
 ghost use Rattle.pp_goal.specs.Arguments.{IsLent};
 ghost use Rattle.pp_resolve.specs.Links.{IsRest};
 ghost use Rattle.pp_resolve.specs.Shown.{IsShown};
-ghost use Rattle.pp_resolve.specs.Engines.{goal_of, row_of, waiting, left, DoWait, AllWait, IsGood, IsSamePlace, IsGoalAt, Looks, Sees, HasMoreLinks};
+ghost use Rattle.pp_resolve.specs.declared.suspended.Suspension.{Suspension as SuspensionValue};
+ghost use Rattle.pp_resolve.specs.Engines.{goal_of, row_of, left, AreBelow, WaitBefore, AllWait, IsGood, IsSamePlace, IsGoalAt, IsMet, Finds, Looks, Sees};
 ghost use Rattle.pp_goal.specs.declared.acts.Act.TheVariants.{Wait};
 
 use crate::engine::Engine;
-use crate::history::{Rest, Waits};
+use crate::history::{Rest, Selected, Waits};
 use crate::root::goal_at;
+use crate::suspended::Suspension;
 use pp_clause::GoalAt;
 use pp_goal::{Act, act_on};
 use std::alloc::AllocError;
@@ -44,7 +48,7 @@ impl<'a> Engine<'a> {
     fn settle(&mut self)
         requires good { IsGood self.old }
         ensures same { IsSamePlace self.old self.new }
-        ensures wait { AllWait self.old → AllWait self.new }
+        ensures suspended { self.new.history.suspended ≡ self.old.history.suspended }
         ensures left { left self.new ≡ left self.old }
         ensures last { self.new.front.rest.from ≡ self.new.front.rest.to → left self.new ≡ [] }
     {
@@ -59,7 +63,7 @@ impl<'a> Engine<'a> {
     fn see(&mut self) -> Option<Act>
         requires good { IsGood self.old }
         ensures same { IsSamePlace self.old self.new }
-        ensures wait { AllWait self.old → AllWait self.new }
+        ensures suspended { self.new.history.suspended ≡ self.old.history.suspended }
         ensures left { left self.new ≡ left self.old }
         ensures sees { Sees self.new result }
     {
@@ -71,7 +75,40 @@ impl<'a> Engine<'a> {
         Some(self.look(rest))
     }
 
-    /// Passes over the first goal that is left.
+    /// A number above the variables of the first goal that is left.
+    fn own_bound(&self) -> usize
+        requires good { IsGood self.now }
+        requires some { self.now.front.rest.from < self.now.front.rest.to }
+        ensures below { AreBelow self.now.clauses.now (goal_of self.now) result self.now.front.rest }
+        ensures sized { result ≤ count (row_of self.now).columns }
+    {
+        let all = self.history.bindings.len();
+        let rest = self.front.rest;
+        match rest.body {
+            None => all,
+            Some(number) => {
+                let own = rest.first as usize + self.clauses.variables(number) as usize;
+                if own < all { own } else { all }
+            }
+        }
+    }
+
+    /// A number above the variables of the first goal that is left and of all goals that are suspended.
+    fn bound(&self) -> usize
+        requires good { IsGood self.now }
+        requires some { self.now.front.rest.from < self.now.front.rest.to }
+        ensures below { AreBelow self.now.clauses.now (goal_of self.now) result self.now.front.rest }
+        ensures sized { result ≤ count (row_of self.now).columns }
+        ensures last { (j : ℕ) → (s : SuspensionValue) → slice_get self.now.history.suspended.goals.items j ≡ Some s → length self.now.history.suspended.goals.items ≡ suc j → s.below ≤ result }
+    {
+        let own = self.own_bound();
+        match self.history.suspended.goals.last() {
+            None => own,
+            Some(goal) => own.max(goal.below),
+        }
+    }
+
+    /// Suspends the first goal that is left.
     fn pass(&mut self) -> Result<(), AllocError>
         requires good { IsGood self.old }
         requires wait { AllWait self.old }
@@ -80,134 +117,138 @@ impl<'a> Engine<'a> {
         ensures wait { OnOk result (AllWait self.new) }
         ensures fewer { OnOk result (length (left self.old) ≡ suc (length (left self.new))) }
     {
-        let number = self.link(Rest {
-            next: self.front.passed,
-            ..self.front.rest
+        let rest = self.front.rest;
+        let below = self.bound();
+        self.history.suspend(Suspension {
+            rest: Rest { next: 0, ..rest },
+            below,
         })?;
-        self.front.passed = number;
         self.front.waits = Waits {
             since: self.history.bindings.mark(),
-            below: self.history.bindings.len(),
+            upto: self.history.suspended.goals.len(),
         };
+        self.front.waiting += 1;
         self.front.rest.from += 1;
         self.front.selected = None;
         Ok(())
     }
 
-    /// Whether all goals that were passed over are known to wait still: no variable that was there when they were
-    /// looked at was bound since, or got its first domain.
-    fn is_still(&self) -> bool
+    /// Whether the first so many suspended goals are known to wait still: no variable below the number that is kept
+    /// with the last of them was bound since they were known to, or got its first domain.
+    fn are_still(&self, amount: usize) -> bool
         requires good { IsGood self.now }
-        ensures wait { result ≡ true → AllWait self.now }
-        ensures below { self.now.front.waits.below ≤ count (row_of self.now).columns }
+        requires upto { amount ≤ self.now.front.waits.upto }
+        ensures { result ≡ true → WaitBefore self.now amount }
     {
-        let waits = self.front.waits;
-        self.history.bindings.is_still(waits.since, waits.below)
-    }
-
-    /// The link from which on all goals that were passed over still wait: the one before the leftmost that doesn't.
-    fn still_waiting(&self) -> u32
-        requires good { IsGood self.now }
-        ensures within { result ≤ length self.now.history.links.items }
-        ensures wait { DoWait (row_of self.now) (waiting self.now result) }
-    {
-        match self.woken() {
-            Some((rest, _)) => rest.next,
-            None => self.front.passed,
+        if amount == 0 {
+            return true;
         }
+        let below = self.history.suspended.goals[amount - 1].below;
+        self.history
+            .bindings
+            .is_still(self.front.waits.since, below)
     }
 
-    /// Puts the goal that was passed over last back before those that are left.
-    fn unwind(&mut self) -> Result<(), AllocError>
-        requires good { IsGood self.old }
-        requires some { 0 < self.old.front.passed }
-        ensures same { IsSamePlace self.old self.new }
-        ensures fewer { OnOk result (self.new.front.passed < self.old.front.passed) }
-        ensures waits { self.new.front.waits ≡ self.old.front.waits }
-        ensures links { HasMoreLinks self.old self.new }
+    /// How many suspended goals, from the first on, are known to wait still.
+    fn still_waiting(&self) -> usize
+        requires good { IsGood self.now }
+        ensures { WaitBefore self.now result }
     {
-        let last = self.history.links[self.front.passed as usize - 1];
-        let rest = self.front.rest;
-        let next = self.link_of(rest)?;
-        self.front.rest = Rest {
-            to: last.from + 1,
-            next,
-            ..last
+        let mut low = 0;
+        let mut high = self.front.waits.upto;
+        let mut next = high;
+        while low < high {
+            if self.are_still(next) {
+                low = next;
+            } else {
+                high = next - 1;
+            }
+            next = low + (high - low + 1) / 2;
+        }
+        low
+    }
+
+    /// The first suspended goal, from this place on, that doesn't wait any more, with what is done with it. It changes
+    /// nothing and takes no memory.
+    pub(crate) fn woken_from(&self, from: usize) -> Option<(usize, Act)>
+        requires good { IsGood self.now }
+        requires wait { WaitBefore self.now from }
+        ensures { MatchOption result (AllWait self.now) (λ p. IsMet self.now (selected_as (Some p.0) p.1)) }
+    {
+        for at in from..self.history.suspended.goals.len() {
+            if !self.history.suspended.is_done(at) {
+                let act = self.look(self.history.suspended.goals[at].rest);
+                if act != Act::Wait {
+                    return Some((at, act));
+                }
+            }
+        }
+        None
+    }
+
+    /// Keeps it that the suspended goals before this place wait now.
+    fn keep_waits(&mut self, upto: usize)
+        requires good { IsGood self.old }
+        requires within { upto ≤ length self.old.history.suspended.goals.items }
+        requires wait { WaitBefore self.old upto }
+        ensures same { IsSamePlace self.old self.new }
+        ensures suspended { self.new.history.suspended ≡ self.old.history.suspended }
+        ensures rest { self.new.front.rest ≡ self.old.front.rest }
+    {
+        self.front.waits = Waits {
+            since: self.history.bindings.mark(),
+            upto,
         };
-        self.front.passed = last.next;
-        self.front.selected = None;
-        Ok(())
     }
 
-    /// Puts the goals from the leftmost on that doesn't wait any more back before those that are left.
-    fn unwind_to(&mut self, start: u32) -> Result<(), AllocError>
+    /// The leftmost suspended goal that doesn't wait any more. No goal is looked at where none can have changed.
+    fn find_woken(&mut self) -> Option<Selected>
         requires good { IsGood self.old }
-        requires within { start ≤ length self.old.history.links.items }
-        requires wait { DoWait (row_of self.old) (waiting self.old start) }
         ensures same { IsSamePlace self.old self.new }
-        ensures wait { OnOk result (AllWait self.new) }
-        ensures waits { self.new.front.waits ≡ self.old.front.waits }
+        ensures found { MatchOption result (AllWait self.new) (IsMet self.new) }
     {
-        while self.front.passed > 0 && self.front.passed != start {
-            self.unwind()?;
+        if self.front.waiting == 0 {
+            return None;
         }
-        Ok(())
-    }
-
-    /// Keeps it that the goals that were passed over wait now.
-    fn keep_waits(&mut self)
-        requires good { IsGood self.old }
-        requires wait { AllWait self.old }
-        requires below { self.old.front.waits.below ≤ count (row_of self.old).columns }
-        ensures same { IsSamePlace self.old self.new }
-        ensures wait { AllWait self.new }
-    {
-        self.front.waits.since = self.history.bindings.mark();
-    }
-
-    /// Puts the goals from the leftmost on that doesn't wait any more back before those that are left. No goal is
-    /// looked at where none can have changed.
-    fn unwind_ready(&mut self) -> Result<(), AllocError>
-        requires good { IsGood self.old }
-        ensures same { IsSamePlace self.old self.new }
-        ensures wait { OnOk result (AllWait self.new) }
-    {
-        if self.front.passed == 0 {
-            return Ok(());
+        match self.woken_from(self.still_waiting()) {
+            None => {
+                let all = self.history.suspended.goals.len();
+                self.keep_waits(all);
+                None
+            }
+            Some((at, act)) => {
+                self.keep_waits(at);
+                Some(Selected { at: Some(at), act })
+            }
         }
-        if !self.is_still() {
-            let start = self.still_waiting();
-            self.unwind_to(start)?;
-        }
-        self.keep_waits();
-        Ok(())
     }
 
-    /// Stands at the leftmost goal that doesn't wait, and says what is done with it; `None` where all wait.
-    fn find(&mut self) -> Result<Option<Act>, AllocError>
+    /// The leftmost goal that doesn't wait, with what is done with it; `None` where all wait.
+    fn find(&mut self) -> Result<Option<Selected>, AllocError>
         requires good { IsGood self.old }
         ensures same { IsSamePlace self.old self.new }
-        ensures wait { OnOk result (AllWait self.new) }
-        ensures sees { IfOk result (Sees self.new) }
-        ensures ready { IfOk result (λ act. act ≢ Some Wait) }
+        ensures found { IfOk result (Finds self.new) }
     {
-        self.unwind_ready()?;
+        if let Some(found) = self.find_woken() {
+            return Ok(Some(found));
+        }
         let mut act = self.see();
         while let Some(Act::Wait) = act {
             self.pass()?;
             act = self.see();
         }
-        Ok(act)
+        match act {
+            None => Ok(None),
+            Some(act) => Ok(Some(Selected { at: None, act })),
+        }
     }
 
-    /// Stands at the leftmost goal that doesn't wait, and keeps what is done with it; nothing where all wait. Until
-    /// the engine moves, no goal is looked at again.
+    /// Finds the selected goal and keeps it with what is done with it; nothing where all wait. Until the engine moves,
+    /// no goal is looked at again.
     pub(crate) fn select(&mut self) -> Result<(), AllocError>
         requires good { IsGood self.old }
         ensures same { IsSamePlace self.old self.new }
-        ensures wait { OnOk result (AllWait self.new) }
-        ensures sees { OnOk result (Sees self.new self.new.front.selected) }
-        ensures ready { OnOk result (self.new.front.selected ≢ Some Wait) }
+        ensures found { OnOk result (Finds self.new self.new.front.selected) }
     {
         if self.front.selected.is_some() {
             return Ok(());

@@ -86,8 +86,8 @@ impl<'a> Engine<'a> {
             columns,
             history: History::new(alloc, bindings),
             front: Front {
-                passed: 0,
-                waits: Waits { since, below: 0 },
+                waiting: 0,
+                waits: Waits { since, upto: 0 },
                 rest: Rest {
                     body: None,
                     from: 0,

@@ -1,17 +1,12 @@
-use Rattle.std.proofs.Common.{sym, subst}
+use Rattle.std.proofs.Common.{None}
+use Rattle.pp_goal.specs.declared.acts.Act.TheVariants.{Call}
 use Rattle.std.proofs.lemmas.Result.{IfOk-weaker}
-use Rattle.pp_resolve.specs.Events.{Took}
-use Rattle.pp_resolve.specs.Engines.{row_of, waiting, DoWait}
-use Rattle.pp_resolve.proofs.Moving.{still_wait}
-use Rattle.pp_resolve.proofs.Choosing.{next_linked, choice_same, took_from}
+use Rattle.pp_resolve.specs.Events.{selected_as, Took}
+use Rattle.pp_resolve.proofs.Choosing.{next_linked, met_linked, choice_same, took_from}
 use Rattle.pp_resolve.proofs.engine.Engine.call.Goals as goal
 
-pub enter_body-requires-clause-wait : goal.enter_body-requires-clause-wait
-enter_body-requires-clause-wait c =
-    let a = c.args.self.now in
-    let b = c.link_of.new.self in
-    let more = c.link_of.ensures.links in
-    subst (λ f. DoWait (row_of b) (waiting b f.passed)) (sym c.link_of.ensures.front) (still_wait a b more.0 a.front.passed c.link_of.ensures.same more.1 c.requires.good.here.passed c.requires.wait)
+pub enter_body-requires-clause-met : goal.enter_body-requires-clause-met
+enter_body-requires-clause-met c = met_linked c.args.self.now c.link_of.new.self (selected_as None (Call c.args.predicate)) c.link_of.ensures.same c.link_of.ensures.front c.link_of.ensures.suspended c.requires.met
 
 pub enter_body-requires-clause-choice : goal.enter_body-requires-clause-choice
 enter_body-requires-clause-choice c = choice_same c.args.self.now c.link_of.new.self c.args.place c.link_of.ensures.same c.requires.choice

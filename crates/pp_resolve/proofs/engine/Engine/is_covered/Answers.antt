@@ -10,6 +10,7 @@ use Rattle.pp_sld.specs.Leaves.{leaf_row}
 use Rattle.pp_unify.specs.States.{present, value_in, row_in}
 use Rattle.pp_moves.proofs.Leaf.{leaf_numbered}
 use Rattle.pp_resolve.specs.Standing.{standing}
+use Rattle.pp_resolve.specs.Kept.{kept_of}
 use Rattle.pp_resolve.specs.Links.{goals_of}
 use Rattle.pp_resolve.specs.Engines.{IsGood, goal_of, place_of}
 use Rattle.pp_resolve.proofs.Overs.{columns_over}
@@ -18,7 +19,7 @@ use Rattle.pp_resolve.proofs.engine.Engine.is_covered.Goals as goal
 pub is_covered-requires : goal.is_covered-requires
 is_covered-requires c =
     let e = c.args.self.now in
-    record { over = columns_over (present e.history.bindings) (goals_of e.clauses.now (goal_of e) e.history.links.items e.front) e.columns.columns c.columns.result.now c.columns.ensures.columns c.requires.good.here.over }
+    record { over = columns_over (present e.history.bindings) (goals_of e.clauses.now (goal_of e) (kept_of e.history) e.front) e.columns.columns c.columns.result.now c.columns.ensures.columns c.requires.good.here.over }
 
 pub returns-clause-good : goal.returns-clause-good
 returns-clause-good c =
@@ -38,5 +39,5 @@ returns-clause-covers c =
     let by = c.args.by.now in
     let same : row_in r ts ≡ leaf_row (place_of e).here =
     ap (λ us. canon nat_eq (pattern (put_all (value_in r) us) (domain_at r.domains))) c.columns.ensures.columns
-    ∙ leaf_numbered (standing r (goals_of e.clauses.now (goal_of e) e.history.links.items e.front) e.columns.columns e.front.depth) in
+    ∙ leaf_numbered (standing r (goals_of e.clauses.now (goal_of e) (kept_of e.history) e.front) e.columns.columns e.front.depth) in
     IfOk-weaker c.is_covered.result (λ is. is ≡ true → RowCovers by (row_in r ts)) (λ is. is ≡ true → RowCovers by (leaf_row (place_of e).here)) (λ is k h. subst (RowCovers by) same (k h)) c.is_covered.ensures.covers

@@ -1,8 +1,9 @@
-use Rattle.std.proofs.Common.{[], ◌∷◌, length, refl, ap, ◌∙◌, arith, length-append}
+use Rattle.std.proofs.Common.{[], ◌∷◌, ◌++◌, length, refl, ap, ◌∙◌, arith, length-append}
+use Rattle.pp_resolve.specs.Kept.{kept_of}
+use Rattle.pp_resolve.specs.Links.{open_from}
 use Rattle.pp_resolve.specs.Engines.{goal_of, row_of}
 use Rattle.pp_resolve.proofs.Linked.{links_more}
-use Rattle.pp_resolve.proofs.Waits.{waits_linked}
-use Rattle.pp_resolve.proofs.Moving.{same_place, goals_still, known_still}
+use Rattle.pp_resolve.proofs.Moving.{kept_at, same_place, left_still, known_still}
 use Rattle.pp_resolve.proofs.engine.Engine.link.Goals as goal
 
 pub returns-clause-same : goal.returns-clause-same
@@ -15,10 +16,13 @@ returns-clause-same c =
     let here = c.requires.good.here in
     let more = c.in_ok-link.ensures.links in
     let size = ap length more ∙ length-append ls (c.args.rest ∷ []) in
+    let goals = ap (λ s. s.goals.items) c.link.ensures.suspended in
+    let done = ap (λ s. s.done.items) c.link.ensures.suspended in
     same_place e h e.front c.requires.good c.link.ensures.bindings c.link.ensures.fit c.link.ensures.frames
-    (goals_still cs root ls h.links.items (c.args.rest ∷ []) e.front more here.rest here.passed) refl
+    (rw (goals, done) (ap (λ gs. open_from cs root e.history.suspended.done.items 0 e.history.suspended.goals.items ++ gs) (left_still cs root ls h.links.items (c.args.rest ∷ []) e.front.rest more here.rest.next))) refl
     (record { formed = here.rest.formed; from = here.rest.from; to = here.rest.to; next = omega (arith, here.rest.next, size); small = here.rest.small })
-    (omega (arith, here.passed, size))
     (links_more cs root ls h.links.items c.args.rest more c.requires.some c.requires.rest here.links)
-    (waits_linked cs root e.history.bindings ls h.links.items (c.args.rest ∷ []) e.front.passed e.front.waits more here.passed here.waits)
-    (known_still cs root (row_of e) ls h.links.items (c.args.rest ∷ []) e.front e.front.selected more here.passed here.known)
+    (rw (goals, done) here.suspended)
+    (rw (goals, done) here.waiting)
+    (record { there = here.waits.there; upto = rw goals here.waits.upto; below = rw goals here.waits.below; goals = rw (goals, done) here.waits.goals })
+    (known_still cs root (row_of e) (kept_of e.history) (kept_at h e.history.bindings) e.front e.front.selected goals done here.known)

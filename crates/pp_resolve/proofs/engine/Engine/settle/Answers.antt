@@ -1,6 +1,5 @@
-use Rattle.std.proofs.Common.{◌≡◌, ◌+◌, ◌-◌, ◌<◌, ◌++◌, length, reverse, None, refl, ap, arith}
+use Rattle.std.proofs.Common.{◌≡◌, ◌+◌, ◌-◌, ◌<◌, length, None, refl, arith}
 use Rattle.pp_resolve.specs.declared.history.Front.{Front}
-use Rattle.pp_resolve.specs.Links.{passed}
 use Rattle.pp_resolve.specs.Engines.{goal_of}
 use Rattle.pp_resolve.proofs.Linked.{link_is, link_some}
 use Rattle.pp_resolve.proofs.Moving.{same_goals, settled_left, nothing_left}
@@ -23,10 +22,10 @@ returns-then-rest-gt0-clause-same c =
     let i = e.front.rest.next - 1 in
     let up : e.front.rest.next ≡ i + 1 = omega (arith, c.if-rest-gt0.true) in
     let w : i < length e.history.links.items = omega (arith, here.rest.next, c.if-rest-gt0.true) in
-    let f : Front = record { passed = e.front.passed; waits = e.front.waits; rest = c.index.result.now; depth = e.front.depth; selected = None } in
+    let f : Front = record { waiting = e.front.waiting; waits = e.front.waits; rest = c.index.result.now; depth = e.front.depth; selected = None } in
     same_goals e f c.requires.good
-    (ap (λ gs. passed e.clauses.now (goal_of e) (reverse e.history.links.items) e.front.passed ++ gs) (settled_left e.clauses.now (goal_of e) e.history.links.items e.front.rest c.index.result.now i c.if-rest.true up w c.index.ensures here.links))
-    refl (link_is e.clauses.now (goal_of e) e.history.links.items i c.index.result.now w c.index.ensures here.links) here.passed here.waits tt
+    (settled_left e.clauses.now (goal_of e) e.history.links.items e.front.rest c.index.result.now i c.if-rest.true up w c.index.ensures here.links)
+    refl refl (link_is e.clauses.now (goal_of e) e.history.links.items i c.index.result.now w c.index.ensures here.links) here.waits tt
 
 pub returns-then-rest-gt0-clause-last : goal.returns-then-rest-gt0-clause-last
 returns-then-rest-gt0-clause-last c d =

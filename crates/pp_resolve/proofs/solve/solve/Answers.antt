@@ -1,6 +1,6 @@
 use Rattle.std.proofs.Common.{[], sym, ◌∙◌, append-nil}
 use Rattle.pp_resolve.proofs.Saved.{taken_back}
-use Rattle.pp_resolve.proofs.step.solve.Goals as goal
+use Rattle.pp_resolve.proofs.solve.solve.Goals as goal
 
 pub returns-in-Ok-false-clause-stays : goal.returns-in-Ok-false-clause-stays
 returns-in-Ok-false-clause-stays c _ = taken_back c.args.bindings.now c.perform.new.bindings c.undo.new.self c.mark-mark.result c.mark-mark.ensures.place c.in-Ok-false.ensures.kept c.undo.ensures
