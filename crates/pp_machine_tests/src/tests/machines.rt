@@ -88,14 +88,6 @@ pub fn machine_of<'a>(rt: &impl Abort, alloc: Global, text: &'a Text, depth: u32
     Machine::start(alloc, &text.clauses, shape, &face, depth).expect(rt, "memory")
 }
 
-/// How many alternatives the machine stands before.
-pub fn choice<L: Ledger>(rt: &impl Abort, machine: &mut Machine<'_>, steps: &mut Steps<L>) -> u64 {
-    match machine.step(steps).expect(rt, "memory") {
-        Event::Choice(count) => count,
-        _ => panic!(rt; "no choice"),
-    }
-}
-
 /// Whether the alternative at this place of the next choice leads on.
 pub fn take<L: Ledger>(
     rt: &impl Abort,
