@@ -10,6 +10,7 @@ use super::searching::halves;
 use pp_cell::{Accepted, Act, Answered, Cell, Entry, Pass, Report, ReportOf};
 use pp_core::Tasks;
 use std::alloc::Global;
+use std::process::Abort;
 use std::sync::Wait;
 
 /// A cell for the search of a span, and so many passes.
@@ -82,34 +83,34 @@ fn report_of(alloc: Global, span: Span, is_found: bool) -> Option<Report<Heights
 }
 
 /// What is answered to a report of the span, and the value then.
-fn told<'a, R: Wait>(
+fn told<'a, R: Abort + Wait>(
     rt: &R,
     alloc: Global,
     cell: &Cell<'a, Heights>,
     pass: &mut Pass<'a, Heights>,
     span: Span,
     is_found: bool,
-) -> Option<(Accepted, u32)>
+) -> (Accepted, u32)
     requires { IsPassOf cell.now pass.old }
     ensures { IsPassOf cell.now pass.new }
 {
-    let report = report_of(alloc, span, is_found)?;
-    let Answered { accepted, seen } = cell.report(rt, pass, report).ok()?;
-    Some((accepted, seen))
+    let report = report_of(alloc, span, is_found).expect(rt, "memory");
+    let Answered { accepted, seen } = cell.report(rt, pass, report).expect(rt, "memory");
+    (accepted, seen)
 }
 
 /// The outcome that a look shows.
-fn shown<'a, R: Wait>(
+fn shown<'a, R: Abort + Wait>(
     rt: &R,
     cell: &Cell<'a, Heights>,
     pass: &mut Pass<'a, Heights>,
-) -> Option<Option<u32>>
+) -> Option<u32>
     requires { IsPassOf cell.now pass.old }
     ensures { IsPassOf cell.now pass.new }
 {
-    match cell.look(rt, pass).ok()? {
-        Some(settled) => Some(Some(settled.outcome().ok()?)),
-        None => Some(None),
+    match cell.look(rt, pass).expect(rt, "memory") {
+        Some(settled) => Some(settled.outcome().expect(rt, "memory")),
+        None => None,
     }
 }
 
@@ -131,45 +132,68 @@ fn said(entry: &Entry<Heights>) -> (u32, Kind) {
     (entry.seat, kind)
 }
 
+const ROOT: Span = Span { low: 0, high: 10 };
+
 const LEFT: Span = Span { low: 0, high: 5 };
 
 const RIGHT: Span = Span { low: 5, high: 10 };
 
-/// What two passes are told of the search of ten numbers, and the journal.
-fn two_passes<R: Wait>(
+/// What two passes are told of the search of ten numbers, and what is shown to them.
+fn talk<'a, R: Abort + Wait>(
     rt: &R,
     alloc: Global,
-) -> Option<([(Accepted, u32); 4], [Option<u32>; 2], Vec<Entry<Heights>>)> {
+    cell: &Cell<'a, Heights>,
+    one: &mut Pass<'a, Heights>,
+    two: &mut Pass<'a, Heights>,
+) -> ([(Accepted, u32); 4], [Option<u32>; 2])
+    requires one { IsPassOf cell.now one.old }
+    requires two { IsPassOf cell.now two.old }
+    ensures one { IsPassOf cell.now one.new }
+    ensures two { IsPassOf cell.now two.new }
+{
+    let first = told(rt, alloc, cell, one, ROOT, false);
+    let early = shown(rt, cell, two);
+    let left = told(rt, alloc, cell, two, LEFT, true);
+    let again = told(rt, alloc, cell, one, LEFT, true);
+    let right = told(rt, alloc, cell, one, RIGHT, true);
+    let late = shown(rt, cell, one);
+    ([first, left, again, right], [early, late])
+}
+
+/// What two passes are told, what is shown to them, and the journal.
+fn two_passes<R: Abort + Wait>(
+    rt: &R,
+    alloc: Global,
+) -> ([(Accepted, u32); 4], [Option<u32>; 2], Vec<Entry<Heights>>) {
     let space = Heights { alloc };
-    let root = Span { low: 0, high: 10 };
-    let (cell, mut passes) = cell_of(alloc, &space, root, 2)?;
-    let mut two = passes.pop()?;
-    let mut one = passes.pop()?;
-    let first = told(rt, alloc, &cell, &mut one, root, false)?;
-    let early = shown(rt, &cell, &mut two)?;
-    let left = told(rt, alloc, &cell, &mut two, LEFT, true)?;
-    let again = told(rt, alloc, &cell, &mut one, LEFT, true)?;
-    let right = told(rt, alloc, &cell, &mut one, RIGHT, true)?;
-    let late = shown(rt, &cell, &mut one)?;
-    let journal = journal_of(cell, vec![in alloc; one, two].ok()?, 2)?;
-    Some(([first, left, again, right], [early, late], journal))
+    let (cell, mut passes) = cell_of(alloc, &space, ROOT, 2).expect(rt, "memory");
+    let mut two = passes.pop().expect(rt, "a pass");
+    let mut one = passes.pop().expect(rt, "a pass");
+    let (told, shown) = talk(rt, alloc, &cell, &mut one, &mut two);
+    let both = vec![in alloc; one, two].expect(rt, "memory");
+    let journal = journal_of(cell, both, 2).expect(rt, "all passes");
+    (told, shown, journal)
+}
+
+/// Whose entry stands at the place, and of what kind it is.
+fn said_at(journal: &[Entry<Heights>], place: usize) -> Option<(u32, Kind)> {
+    journal.get(place).map(said)
 }
 
 #[test]
 fn a_cell_answers_reports_and_looks_and_keeps_them_all(rt: HostRuntime) {
-    let (told, shown, journal) = two_passes(&rt, rt.alloc()).expect(&rt, "memory");
+    let (told, shown, journal) = two_passes(&rt, rt.alloc());
     let taken = Accepted::Taken;
+    let answers = [
+        (taken, 0),
+        (taken, 31_676),
+        (Accepted::Stale, 31_676),
+        (Accepted::Settled, 71_271),
+    ];
     assert_eq!(rt;
-        told,
-        [
-            (taken, 0),
-            (taken, 31_676),
-            (Accepted::Stale, 31_676),
-            (Accepted::Settled, 71_271)
-        ]
+        (told, shown, journal.len()),
+        (answers, [None, Some(71_271)], 6)
     );
-    assert_eq!(rt; shown, [None, Some(71_271)]);
-    assert_eq!(rt; journal.len(), 6);
     for (i, want) in [
         (0, (0, Kind::Reported)),
         (1, (1, Kind::Looked)),
@@ -178,6 +202,6 @@ fn a_cell_answers_reports_and_looks_and_keeps_them_all(rt: HostRuntime) {
         (4, (0, Kind::Reported)),
         (5, (0, Kind::Looked)),
     ] {
-        assert_eq!(rt; journal.get(i).map(said), Some(want), "{i}");
+        assert_eq!(rt; said_at(&journal, i), Some(want), "{i}");
     }
 }

@@ -148,6 +148,27 @@ fn turns<'a, 'b, R: Abort + Wait>(rt: &R, alloc: Global, worker: &mut Seated<'a,
     panic!(rt; "turns without end")
 }
 
+/// How many reports one worker makes of the span, and its pass.
+fn worked_alone<'a, R: Abort + Wait>(
+    rt: &R,
+    alloc: Global,
+    space: &'a Heights,
+    cell: &Cell<'a, Heights>,
+    pass: Pass<'a, Heights>,
+    root: Span,
+) -> (u32, Pass<'a, Heights>)
+    requires space { space.now ≡ pass_space pass }
+    requires pass { IsPassOf cell.now pass }
+    ensures { IsPassOf cell.now result.1 }
+{
+    let (stop, mut seats) = stop_of(rt, alloc, 1);
+    let seat = seats.pop().expect(rt, "a seat");
+    let dealt = deal_one(rt, alloc, root);
+    let mut worker = sit(rt, alloc, space, cell, &stop, pass, seat, dealt);
+    let reports = turns(rt, alloc, &mut worker);
+    (reports, released(worker))
+}
+
 /// How many reports one worker makes of the span, and the journal.
 fn searched_alone<R: Abort + Wait>(
     rt: &R,
@@ -156,15 +177,13 @@ fn searched_alone<R: Abort + Wait>(
 ) -> (u32, Vec<Entry<Heights>>) {
     let space = Heights { alloc };
     let (cell, mut passes) = cell_of(alloc, &space, root, 1).expect(rt, "memory");
-    let (stop, mut seats) = stop_of(rt, alloc, 1);
     let pass = passes.pop().expect(rt, "a pass");
-    let seat = seats.pop().expect(rt, "a seat");
-    let dealt = deal_one(rt, alloc, root);
-    let mut worker = sit(rt, alloc, &space, &cell, &stop, pass, seat, dealt);
-    let reports = turns(rt, alloc, &mut worker);
-    let passes = vec![in alloc; released(worker)].expect(rt, "memory");
-    let journal = journal_of(cell, passes, 1).expect(rt, "all passes");
-    (reports, journal)
+    let (reports, pass) = worked_alone(rt, alloc, &space, &cell, pass, root);
+    let passes = vec![in alloc; pass].expect(rt, "memory");
+    (
+        reports,
+        journal_of(cell, passes, 1).expect(rt, "all passes"),
+    )
 }
 
 /// Whether the turn reported, as a number.
@@ -214,6 +233,41 @@ fn rounds<'a, 'b, R: Abort + Wait>(
     panic!(rt; "rounds without end")
 }
 
+/// A stop word, and the seats of two workers at it.
+fn stop_of_two(rt: &impl Abort, alloc: Global) -> (Stop, StopSeat, StopSeat)
+    ensures one { IsSeatOf result.0 result.1 }
+    ensures two { IsSeatOf result.0 result.2 }
+{
+    let (stop, mut seats) = stop_of(rt, alloc, 2);
+    let two = seats.pop().expect(rt, "a seat");
+    let one = seats.pop().expect(rt, "a seat");
+    (stop, one, two)
+}
+
+/// How many reports two workers make of the span in turn, and their passes.
+fn worked_by_two<'a, R: Abort + Wait>(
+    rt: &R,
+    alloc: Global,
+    space: &'a Heights,
+    cell: &Cell<'a, Heights>,
+    one: Pass<'a, Heights>,
+    two: Pass<'a, Heights>,
+    root: Span,
+) -> (u32, Pass<'a, Heights>, Pass<'a, Heights>)
+    requires spaces { (space.now ≡ pass_space one) × (space.now ≡ pass_space two) }
+    requires one { IsPassOf cell.now one }
+    requires two { IsPassOf cell.now two }
+    ensures one { IsPassOf cell.now result.1 }
+    ensures two { IsPassOf cell.now result.2 }
+{
+    let (stop, seat, seat_two) = stop_of_two(rt, alloc);
+    let (first, second) = deal_two(rt, alloc, root);
+    let mut one = sit(rt, alloc, space, cell, &stop, one, seat, first);
+    let mut two = sit(rt, alloc, space, cell, &stop, two, seat_two, second);
+    let reports = rounds(rt, alloc, &mut one, &mut two);
+    (reports, released(one), released(two))
+}
+
 /// How many reports two workers make of the span in turn, and the journal.
 fn searched_by_two<R: Abort + Wait>(
     rt: &R,
@@ -222,18 +276,14 @@ fn searched_by_two<R: Abort + Wait>(
 ) -> (u32, Vec<Entry<Heights>>) {
     let space = Heights { alloc };
     let (cell, mut passes) = cell_of(alloc, &space, root, 2).expect(rt, "memory");
-    let (stop, mut seats) = stop_of(rt, alloc, 2);
-    let (first, second) = deal_two(rt, alloc, root);
-    let pass = passes.pop().expect(rt, "a pass");
-    let seat = seats.pop().expect(rt, "a seat");
-    let mut two = sit(rt, alloc, &space, &cell, &stop, pass, seat, second);
-    let pass = passes.pop().expect(rt, "a pass");
-    let seat = seats.pop().expect(rt, "a seat");
-    let mut one = sit(rt, alloc, &space, &cell, &stop, pass, seat, first);
-    let reports = rounds(rt, alloc, &mut one, &mut two);
-    let passes = vec![in alloc; released(one), released(two)].expect(rt, "memory");
-    let journal = journal_of(cell, passes, 2).expect(rt, "all passes");
-    (reports, journal)
+    let two = passes.pop().expect(rt, "a pass");
+    let one = passes.pop().expect(rt, "a pass");
+    let (reports, one, two) = worked_by_two(rt, alloc, &space, &cell, one, two, root);
+    let passes = vec![in alloc; one, two].expect(rt, "memory");
+    (
+        reports,
+        journal_of(cell, passes, 2).expect(rt, "all passes"),
+    )
 }
 
 /// Where the span stands among these.
@@ -310,6 +360,20 @@ fn reports_in(journal: &[Entry<Heights>]) -> u32 {
     count
 }
 
+/// What the journal says: how many reports and entries there are, and what is replayed of them.
+fn read(
+    rt: &impl Abort,
+    alloc: Global,
+    root: Span,
+    journal: &[Entry<Heights>],
+) -> (u32, usize, Option<(u32, bool)>) {
+    (
+        reports_in(journal),
+        journal.len(),
+        replayed(rt, alloc, root, journal),
+    )
+}
+
 #[test]
 fn each_turn_of_one_worker_is_a_report_until_nothing_is_left(rt: HostRuntime) {
     // 200 numbers, then the two halves of the other 800.
@@ -318,12 +382,9 @@ fn each_turn_of_one_worker_is_a_report_until_nothing_is_left(rt: HostRuntime) {
         high: 1_000,
     };
     let (reports, journal) = searched_alone(&rt, rt.alloc(), root);
-    assert_eq!(rt; reports, 3);
-    assert_eq!(rt; reports_in(&journal), 3);
+    let read = read(&rt, rt.alloc(), root, &journal);
     // The last report is followed by a look.
-    assert_eq!(rt; journal.len(), 4);
-    let found = replayed(&rt, rt.alloc(), root, &journal);
-    assert_eq!(rt; found, Some((999_086, true)));
+    assert_eq!(rt; (reports, read), (3, (3, 4, Some((999_086, true)))));
 }
 
 #[test]
@@ -335,8 +396,7 @@ fn the_journal_of_two_workers_comes_to_the_greatest_height(rt: HostRuntime) {
     ] {
         let root = Span { low: 0, high };
         let (reports, journal) = searched_by_two(&rt, rt.alloc(), root);
-        assert_eq!(rt; reports_in(&journal), reports, "{high}");
-        let found = replayed(&rt, rt.alloc(), root, &journal);
-        assert_eq!(rt; found, Some(wanted), "{high}");
+        let (in_journal, _, found) = read(&rt, rt.alloc(), root, &journal);
+        assert_eq!(rt; (in_journal, found), (reports, Some(wanted)), "{high}");
     }
 }
