@@ -19,16 +19,21 @@ add_leaves m (x ∷ xs) f = add_leaves m xs (join_finding f (finding_of m (x ∷
 
 -- the walker stands over a root in whose tree the leaves of the work lie under the call
 abbrev pub IsUnderCall : Program → Row → Place → List ℕ → Work → Type 0
-IsUnderCall clauses call p ks w = (root : Config) × StandsOver clauses root p ks × ((t : Search) → IsSearch clauses root t → LeavesUnder call (worth w t))
+IsUnderCall clauses call p ks w = (root : Config) × StandsOver clauses root p ks
+    × ((t : Search) → IsSearch clauses root t → LeavesUnder call (worth w t))
 
--- whatever root the walker stood over, the leaves that were met and those of the works that are left are those of the task
+-- whatever root the walker stood over, the leaves that were met and those of the works that are left are those of the
+-- task
 abbrev pub HasExplored : Program → Place → List ℕ → Work → List Leaf → List Work → Type 0
-HasExplored clauses p ks task met rest = (root : Config) → StandsOver clauses root p ks → (t : Search) → IsSearch clauses root t → HasWalked t task met rest
+HasExplored clauses p ks task met rest = (root : Config) → StandsOver clauses root p ks → (t : Search)
+    → IsSearch clauses root t → HasWalked t task met rest
 
 -- and each was added to what was gathered before
 abbrev pub HasGathered : Program → Mode → Place → List ℕ → Work → Finding → List Work → Finding → Type 0
-HasGathered clauses m p ks task before rest after = (met : List Leaf) × (after ≡ add_leaves m met before) × HasExplored clauses p ks task met rest
+HasGathered clauses m p ks task before rest after = (met : List Leaf) × (after ≡ add_leaves m met before)
+    × HasExplored clauses p ks task met rest
 
 -- leaves that are added one after another are joined as one
 abbrev pub AddedAreJoined : Type 0
-AddedAreJoined = (m : Mode) (call : Row) (f : Finding) (xs : List Leaf) → Fits m call f → LeavesUnder call xs → add_leaves m xs f ≡ join_finding f (finding_of m xs)
+AddedAreJoined = (m : Mode) (call : Row) (f : Finding) (xs : List Leaf) → Fits m call f → LeavesUnder call xs
+    → add_leaves m xs f ≡ join_finding f (finding_of m xs)

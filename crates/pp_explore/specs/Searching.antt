@@ -60,7 +60,8 @@ IsAbove levels ks = (ls : List Level) × (l : Level) × (levels ≡ ls ++ l ∷ 
 -- the machine is back at the choice of the next part of the work, or there is none
 abbrev pub HasLeft : Place → List ℕ → Work → Bool → Place → List ℕ → Work → Type 0
 HasLeft p ks w false q js v = (next w ≡ spent) × (v ≡ spent)
-HasLeft p ks w true q js v = (ls : List Level) × (next w ≡ at ls) × (v ≡ at ls) × (js ≡ take (length ls - 1) ks) × (q ≡ back_by (length ks - (length ls - 1)) p.above p.here)
+HasLeft p ks w true q js v = (ls : List Level) × (next w ≡ at ls) × (v ≡ at ls) × (js ≡ take (length ls - 1) ks)
+    × (q ≡ back_by (length ks - (length ls - 1)) p.above p.here)
 
 module _ (clauses : Program) where
   -- the alternatives from the first place on that come before the second fail
@@ -70,7 +71,8 @@ module _ (clauses : Program) where
   -- the walker stands at the work's path, or at the choice whose alternatives its last level counts
   abbrev pub FitsWork : Stage → Place → List ℕ → Work → Type 0
   FitsWork Enter p ks w = (ls : List Level) × (w ≡ at ls) × (ks ≡ places ls)
-  FitsWork (Try from) p ks w = (ls : List Level) × (l : Level) × (w ≡ at (ls ++ l ∷ [])) × (ks ≡ places ls) × IsAtChoice clauses p.here × AreDead p.here l.now from
+  FitsWork (Try from) p ks w = (ls : List Level) × (l : Level) × (w ≡ at (ls ++ l ∷ [])) × (ks ≡ places ls)
+      × IsAtChoice clauses p.here × AreDead p.here l.now from
 
   -- a search can go on from here
   pub record IsReady (call : Row) (s : State) : Type 0 where
@@ -81,7 +83,8 @@ module _ (clauses : Program) where
 
   -- how much there is from a place of a choice on, where as many places are said to be as end there
   abbrev pub size : Config → ℕ → ℕ → ℕ
-  size c now end = 3 * (length (trace_all (skip now (kids (tree clauses c)))) + ((end - now) - (count_kids (kids (tree clauses c)) - now)))
+  size c now end = 3 * (length (trace_all (skip now (kids (tree clauses c))))
+      + ((end - now) - (count_kids (kids (tree clauses c)) - now)))
 
   -- at the siblings above
   abbrev pub owed : List Config → List Level → ℕ
@@ -98,9 +101,11 @@ module _ (clauses : Program) where
   distance Enter p w = 3 * length (trace (tree clauses p.here)) + 2 + owed p.above (upward w)
   distance (Try from) p w = owed_here p (upward w)
 
-  -- whatever root the walker stands over, what leads from the work on meets these leaves, and with what is left loses none
+  -- whatever root the walker stands over, what leads from the work on meets these leaves, and with what is left loses
+  -- none
   abbrev pub Keeps : Place → List ℕ → Work → List Leaf → List Work → Type 0
-  Keeps p ks w ms rest = (root : Config) → StandsOver clauses root p ks → (task : Work) (xs : List Leaf) → HasWalked (tree clauses root) task xs (w ∷ []) → HasWalked (tree clauses root) task (xs ++ ms) rest
+  Keeps p ks w ms rest = (root : Config) → StandsOver clauses root p ks → (task : Work) (xs : List Leaf)
+      → HasWalked (tree clauses root) task xs (w ∷ []) → HasWalked (tree clauses root) task (xs ++ ms) rest
 
   -- the leaves at the path of the work, whatever root it stands over
   abbrev pub PathIs : Place → List ℕ → Work → List Leaf → Type 0
@@ -130,25 +135,34 @@ module _ (clauses : Program) (m : Mode) (call : Row) where
   abbrev pub Turns : State → Turned → Place → List ℕ → Work → Finding → Type 0
   Turns old Done p ks w f = Ends old w f
   Turns old (On s) p ks w f = Goes old (state s p ks w f)
-  Turns old (Tried s) p ks w f = Goes old (state s p ks w f) × ((task : Work) → IsOn old.stage task old.work → IsLater w task)
+  Turns old (Tried s) p ks w f = Goes old (state s p ks w f)
+      × ((task : Work) → IsOn old.stage task old.work → IsLater w task)
 
 -- a turn gives up what the path of the work leads to, whose leaves were met
 abbrev pub GivesUp : Program → Place → List ℕ → Work → ℕ → Turned → Place → List ℕ → Work → Type 0
-GivesUp clauses p ks w from r q js v = (m : Mode) (call : Row) (s : Stage) (f g : Finding) (ms : List Leaf) → IsReady clauses call (state s p ks w f) → KnownDead clauses s p w from → PathIs clauses p ks w ms → g ≡ add_leaves m ms f → Turns clauses m call (state s p ks w f) r q js v g
+GivesUp clauses p ks w from r q js v = (m : Mode) (call : Row) (s : Stage) (f g : Finding) (ms : List Leaf)
+    → IsReady clauses call (state s p ks w f) → KnownDead clauses s p w from → PathIs clauses p ks w ms
+    → g ≡ add_leaves m ms f → Turns clauses m call (state s p ks w f) r q js v g
 
 -- a turn passes over alternatives here that are known to fail, with the next one among them, and meets no leaf
 abbrev pub PassesOver : Program → Place → List ℕ → Work → ℕ → Turned → Place → List ℕ → Work → Type 0
-PassesOver clauses p ks w from r q js v = (m : Mode) (call : Row) (k0 now : ℕ) (f : Finding) → IsReady clauses call (state (Try k0) p ks w f) → IsPlaceOf w now → AreDead clauses p.here now from → (HasChoice clauses p.here now → IsDeadAt clauses p.here now) → Turns clauses m call (state (Try k0) p ks w f) r q js v f
+PassesOver clauses p ks w from r q js v = (m : Mode) (call : Row) (k0 now : ℕ) (f : Finding)
+    → IsReady clauses call (state (Try k0) p ks w f) → IsPlaceOf w now → AreDead clauses p.here now from
+    → (HasChoice clauses p.here now → IsDeadAt clauses p.here now)
+    → Turns clauses m call (state (Try k0) p ks w f) r q js v f
 
 -- a turn tries alternatives here, and meets no leaf
 abbrev pub Tries : Program → Place → List ℕ → Work → ℕ → Turned → Place → List ℕ → Work → Type 0
-Tries clauses p ks w from r q js v = (m : Mode) (call : Row) (f : Finding) → IsReady clauses call (state (Try from) p ks w f) → Turns clauses m call (state (Try from) p ks w f) r q js v f
+Tries clauses p ks w from r q js v = (m : Mode) (call : Row) (f : Finding)
+    → IsReady clauses call (state (Try from) p ks w f) → Turns clauses m call (state (Try from) p ks w f) r q js v f
 
 -- the walker goes to the first part of a work to which a path leads, or there is none
 abbrev pub Arrives : Program → Place → List ℕ → Work → Option Stage → Place → List ℕ → Work → Type 0
 Arrives clauses p ks w None q js v = Keeps clauses p ks w [] []
-Arrives clauses p ks w (Some s) q js v = FitsWork clauses s q js v × Keeps clauses p ks w [] (v ∷ []) × ((task : Work) → w ≡ task → IsOn s task v)
+Arrives clauses p ks w (Some s) q js v = FitsWork clauses s q js v × Keeps clauses p ks w [] (v ∷ [])
+    × ((task : Work) → w ≡ task → IsOn s task v)
 
 -- from a state on, leaves were met and added, and these works are left
 abbrev pub HasSearched : Program → Mode → State → List Work → Finding → Type 0
-HasSearched clauses m old rest f = (met : List Leaf) × (f ≡ add_leaves m met old.finding) × Keeps clauses old.place old.path old.work met rest
+HasSearched clauses m old rest f = (met : List Leaf) × (f ≡ add_leaves m met old.finding)
+    × Keeps clauses old.place old.path old.work met rest

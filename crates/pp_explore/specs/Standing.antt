@@ -47,4 +47,6 @@ Took clauses p ks k false q js = Chose clauses p k false q × (js ≡ ks)
 -- a choice of so many alternatives comes, or the branch ends
 abbrev pub Comes : Program → Config → Option ℕ → Type 0
 Comes clauses c (Some n) = (ws : List Way) × (next clauses c ≡ choices ws) × (n ≡ length ws)
-Comes clauses c None = (next clauses c ≡ choices []) ⊎ ((next clauses c ≡ finished) ⊎ ((next clauses c ≡ left_loose) ⊎ ((next clauses c ≡ fails) ⊎ ((w : Way) × (next clauses c ≡ one w) × IsDead w))))
+Comes clauses c None = (next clauses c ≡ choices [])
+    ⊎ ((next clauses c ≡ finished)
+    ⊎ ((next clauses c ≡ left_loose) ⊎ ((next clauses c ≡ fails) ⊎ ((w : Way) × (next clauses c ≡ one w) × IsDead w))))

@@ -17,8 +17,11 @@ pub(crate) fn arrive<M: SearchMachine>(
 ) -> Result<Option<Stage>, AllocError>
     requires open { work.old ≢ None }
     ensures clauses { M.clauses walker.new.machine ≡ M.clauses walker.old.machine }
-    ensures stands { StaysOver (M.clauses walker.old.machine) (M.place walker.old.machine) walker.old.path.items (M.place walker.new.machine) walker.new.path.items }
-    ensures arrives { IfOk result (λ o. Arrives (M.clauses walker.old.machine) (M.place walker.old.machine) walker.old.path.items (work_by work.old) o (M.place walker.new.machine) walker.new.path.items (work_by work.new)) }
+    ensures stands { StaysOver (M.clauses walker.old.machine) (M.place walker.old.machine) walker.old.path.items
+        (M.place walker.new.machine) walker.new.path.items }
+    ensures arrives { IfOk result (λ o.
+        Arrives (M.clauses walker.old.machine) (M.place walker.old.machine) walker.old.path.items (work_by work.old) o
+        (M.place walker.new.machine) walker.new.path.items (work_by work.new)) }
 {
     if walker.go_to(work.path())? {
         return Ok(Some(Stage::Enter));

@@ -34,7 +34,8 @@ impl<M: SearchMachine> Walker<M> {
     fn pass<L: Ledger>(&mut self, steps: &mut Steps<L>) -> Result<Option<u64>, AllocError>
         ensures clauses { M.clauses self.new.machine ≡ M.clauses self.old.machine }
         ensures path { self.new.path.items ≡ self.old.path.items }
-        ensures stands { StaysOver (M.clauses self.old.machine) (M.place self.old.machine) self.old.path.items (M.place self.new.machine) self.old.path.items }
+        ensures stands { StaysOver (M.clauses self.old.machine) (M.place self.old.machine) self.old.path.items
+            (M.place self.new.machine) self.old.path.items }
         ensures comes { IfOk result (λ o. Comes (M.clauses self.old.machine) (M.place self.new.machine).here o) }
     {
         loop {
@@ -52,9 +53,12 @@ impl<M: SearchMachine> Walker<M> {
     /// before.
     fn descend<L: Ledger>(&mut self, at: u64, steps: &mut Steps<L>) -> Result<bool, AllocError>
         ensures clauses { M.clauses self.new.machine ≡ M.clauses self.old.machine }
-        ensures stands { StaysOver (M.clauses self.old.machine) (M.place self.old.machine) self.old.path.items (M.place self.new.machine) self.new.path.items }
+        ensures stands { StaysOver (M.clauses self.old.machine) (M.place self.old.machine) self.old.path.items
+            (M.place self.new.machine) self.new.path.items }
         ensures there { IfOk result (λ goes. goes ≡ true → self.new.path.items ≡ self.old.path.items ++ at ∷ []) }
-        ensures missed { IfOk result (λ goes. goes ≡ false → (js : List ℕ) → MissesOver (M.clauses self.old.machine) (M.place self.old.machine) self.old.path.items (self.old.path.items ++ at ∷ js)) }
+        ensures missed { IfOk result (λ goes. goes ≡ false → (js : List ℕ)
+            → MissesOver (M.clauses self.old.machine) (M.place self.old.machine) self.old.path.items
+            (self.old.path.items ++ at ∷ js)) }
     {
         match self.pass(steps)? {
             Some(count) => {
@@ -74,9 +78,13 @@ impl<M: SearchMachine> Walker<M> {
         steps: &mut Steps<L>,
     ) -> Result<bool, AllocError>
         ensures clauses { M.clauses self.new.machine ≡ M.clauses self.old.machine }
-        ensures stands { StaysOver (M.clauses self.old.machine) (M.place self.old.machine) self.old.path.items (M.place self.new.machine) self.new.path.items }
-        ensures there { IfOk result (λ goes. goes ≡ true → self.new.path.items ≡ self.old.path.items ++ nows levels.now) }
-        ensures missed { IfOk result (λ goes. goes ≡ false → MissesOver (M.clauses self.old.machine) (M.place self.old.machine) self.old.path.items (self.old.path.items ++ nows levels.now)) }
+        ensures stands { StaysOver (M.clauses self.old.machine) (M.place self.old.machine) self.old.path.items
+            (M.place self.new.machine) self.new.path.items }
+        ensures there { IfOk result (λ goes. goes ≡ true
+            → self.new.path.items ≡ self.old.path.items ++ nows levels.now) }
+        ensures missed { IfOk result (λ goes. goes ≡ false
+            → MissesOver (M.clauses self.old.machine) (M.place self.old.machine) self.old.path.items
+            (self.old.path.items ++ nows levels.now)) }
     {
         for level in levels {
             if !self.descend(level.now, steps)? {
@@ -96,9 +104,13 @@ impl<M: SearchMachine> Walker<M> {
         requires parts { blank.parts ≡ L.parts }
         requires some { 0 < blank.parts }
         ensures clauses { M.clauses self.new.machine ≡ M.clauses self.old.machine }
-        ensures stands { StaysOver (M.clauses self.old.machine) (M.place self.old.machine) self.old.path.items (M.place self.new.machine) self.new.path.items }
-        ensures there { IfOk result (λ goes. goes ≡ true → self.new.path.items ≡ self.old.path.items ++ nows levels.now) }
-        ensures missed { IfOk result (λ goes. goes ≡ false → MissesOver (M.clauses self.old.machine) (M.place self.old.machine) self.old.path.items (self.old.path.items ++ nows levels.now)) }
+        ensures stands { StaysOver (M.clauses self.old.machine) (M.place self.old.machine) self.old.path.items
+            (M.place self.new.machine) self.new.path.items }
+        ensures there { IfOk result (λ goes. goes ≡ true
+            → self.new.path.items ≡ self.old.path.items ++ nows levels.now) }
+        ensures missed { IfOk result (λ goes. goes ≡ false
+            → MissesOver (M.clauses self.old.machine) (M.place self.old.machine) self.old.path.items
+            (self.old.path.items ++ nows levels.now)) }
     {
         let mut steps: Steps<L> = Steps::new(blank);
         self.descend_all(levels, &mut steps)
@@ -109,9 +121,12 @@ impl<M: SearchMachine> Walker<M> {
     /// path already, or at a choice on it, it does nothing again.
     pub fn go_to(&mut self, levels: &[Level]) -> Result<bool, AllocError>
         ensures clauses { M.clauses self.new.machine ≡ M.clauses self.old.machine }
-        ensures stands { StaysOver (M.clauses self.old.machine) (M.place self.old.machine) self.old.path.items (M.place self.new.machine) self.new.path.items }
+        ensures stands { StaysOver (M.clauses self.old.machine) (M.place self.old.machine) self.old.path.items
+            (M.place self.new.machine) self.new.path.items }
         ensures there { IfOk result (λ goes. goes ≡ true → self.new.path.items ≡ nows levels.now) }
-        ensures missed { IfOk result (λ goes. goes ≡ false → MissesOver (M.clauses self.old.machine) (M.place self.old.machine) self.old.path.items (nows levels.now)) }
+        ensures missed { IfOk result (λ goes. goes ≡ false
+            → MissesOver (M.clauses self.old.machine) (M.place self.old.machine) self.old.path.items
+            (nows levels.now)) }
     {
         let shared = self.shared(levels);
         self.back_to(shared);
@@ -124,9 +139,12 @@ impl<M: SearchMachine> Walker<M> {
     pub fn replay(&mut self, work: &Work) -> Result<bool, AllocError>
         requires open { work.now ≢ None }
         ensures clauses { M.clauses self.new.machine ≡ M.clauses self.old.machine }
-        ensures stands { StaysOver (M.clauses self.old.machine) (M.place self.old.machine) self.old.path.items (M.place self.new.machine) self.new.path.items }
+        ensures stands { StaysOver (M.clauses self.old.machine) (M.place self.old.machine) self.old.path.items
+            (M.place self.new.machine) self.new.path.items }
         ensures there { IfOk result (λ goes. goes ≡ true → self.new.path.items ≡ nows (levels_of work.now)) }
-        ensures missed { IfOk result (λ goes. goes ≡ false → MissesOver (M.clauses self.old.machine) (M.place self.old.machine) self.old.path.items (nows (levels_of work.now))) }
+        ensures missed { IfOk result (λ goes. goes ≡ false
+            → MissesOver (M.clauses self.old.machine) (M.place self.old.machine) self.old.path.items
+            (nows (levels_of work.now))) }
         ensures root { IfOk result (λ goes. goes ≡ false → self.new.path.items ≡ []) }
         ensures err { OnErr result (self.new.path.items ≡ []) }
     {
@@ -145,9 +163,13 @@ impl<M: SearchMachine> Walker<M> {
         requires some { 0 < blank.parts }
         ensures clauses { M.clauses self.new.machine ≡ M.clauses self.old.machine }
         ensures path { self.new.path.items ≡ self.old.path.items }
-        ensures stands { StaysOver (M.clauses self.old.machine) (M.place self.old.machine) self.old.path.items (M.place self.new.machine) self.old.path.items }
-        ensures choice { IfOk result (λ comes. comes ≡ true → IsAtChoice (M.clauses self.old.machine) (M.place self.new.machine).here) }
-        ensures missed { IfOk result (λ comes. comes ≡ false → (k : ℕ) (js : List ℕ) → MissesOver (M.clauses self.old.machine) (M.place self.old.machine) self.old.path.items (self.old.path.items ++ k ∷ js)) }
+        ensures stands { StaysOver (M.clauses self.old.machine) (M.place self.old.machine) self.old.path.items
+            (M.place self.new.machine) self.old.path.items }
+        ensures choice { IfOk result (λ comes. comes ≡ true
+            → IsAtChoice (M.clauses self.old.machine) (M.place self.new.machine).here) }
+        ensures missed { IfOk result (λ comes. comes ≡ false → (k : ℕ) (js : List ℕ)
+            → MissesOver (M.clauses self.old.machine) (M.place self.old.machine) self.old.path.items
+            (self.old.path.items ++ k ∷ js)) }
     {
         let mut steps: Steps<L> = Steps::new(blank);
         match self.pass(&mut steps)? {
@@ -161,10 +183,14 @@ impl<M: SearchMachine> Walker<M> {
     pub(crate) fn go_above(&mut self, levels: &[Level]) -> Result<bool, AllocError>
         requires { 1 ≤ length levels.now }
         ensures clauses { M.clauses self.new.machine ≡ M.clauses self.old.machine }
-        ensures stands { StaysOver (M.clauses self.old.machine) (M.place self.old.machine) self.old.path.items (M.place self.new.machine) self.new.path.items }
+        ensures stands { StaysOver (M.clauses self.old.machine) (M.place self.old.machine) self.old.path.items
+            (M.place self.new.machine) self.new.path.items }
         ensures above { IfOk result (λ comes. comes ≡ true → IsAbove (map level_by levels.now) self.new.path.items) }
-        ensures choice { IfOk result (λ comes. comes ≡ true → IsAtChoice (M.clauses self.old.machine) (M.place self.new.machine).here) }
-        ensures missed { IfOk result (λ comes. comes ≡ false → MissesOver (M.clauses self.old.machine) (M.place self.old.machine) self.old.path.items (nows levels.now)) }
+        ensures choice { IfOk result (λ comes. comes ≡ true
+            → IsAtChoice (M.clauses self.old.machine) (M.place self.new.machine).here) }
+        ensures missed { IfOk result (λ comes. comes ≡ false
+            → MissesOver (M.clauses self.old.machine) (M.place self.old.machine) self.old.path.items
+            (nows levels.now)) }
     {
         if !self.go_to(&levels[..levels.len() - 1])? {
             return Ok(false);

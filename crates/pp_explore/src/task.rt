@@ -35,8 +35,10 @@ pub struct Explored {
 fn divided(alloc: Global, mut work: Work) -> Result<Vec<Work>, AllocError>
     requires open { work ≢ None }
     ensures open { IfOk result (λ rest. All (λ w. w ≢ None) rest.items) }
-    ensures walked { IfOk result (λ rest. (t : Tree) (task : WorkValue) (xs : List Leaf) → HasWalked t task xs (work_by work ∷ []) → HasWalked t task xs (map work_by rest.items)) }
-    ensures later { IfOk result (λ rest. (task : WorkValue) → IsLater (work_by work) task → All (λ w. IsLater (work_by w) task) rest.items) }
+    ensures walked { IfOk result (λ rest. (t : Tree) (task : WorkValue) (xs : List Leaf)
+        → HasWalked t task xs (work_by work ∷ []) → HasWalked t task xs (map work_by rest.items)) }
+    ensures later { IfOk result (λ rest. (task : WorkValue) → IsLater (work_by work) task
+        → All (λ w. IsLater (work_by w) task) rest.items) }
 {
     let mut rest = Vec::with_capacity(alloc, 2)?;
     let Some(other) = work.split()? else {
@@ -72,14 +74,20 @@ fn search<M: SearchMachine, G: Gatherer, L: Ledger>(
     requires seat { IsSeatOf stop.now seat.old }
     requires fresh { has_seen seat.old ≡ false }
     requires budget { 1 ≤ budget }
-    requires ready { IsReady (M.clauses walker.old.machine) (G.call gathered.old) (state stage (M.place walker.old.machine) walker.old.path.items (work_by work) (G.finding gathered.old)) }
+    requires ready { IsReady (M.clauses walker.old.machine) (G.call gathered.old)
+        (state stage (M.place walker.old.machine) walker.old.path.items (work_by work) (G.finding gathered.old)) }
     ensures clauses { M.clauses walker.new.machine ≡ M.clauses walker.old.machine }
     ensures mode { G.mode gathered.new ≡ G.mode gathered.old }
     ensures call { G.call gathered.new ≡ G.call gathered.old }
-    ensures stands { StaysOver (M.clauses walker.old.machine) (M.place walker.old.machine) walker.old.path.items (M.place walker.new.machine) walker.new.path.items }
-    ensures searched { IfOk result (λ e. HasSearched (M.clauses walker.old.machine) (G.mode gathered.old) (state stage (M.place walker.old.machine) walker.old.path.items (work_by work) (G.finding gathered.old)) (map work_by e.rest.items) (G.finding gathered.new)) }
+    ensures stands { StaysOver (M.clauses walker.old.machine) (M.place walker.old.machine) walker.old.path.items
+        (M.place walker.new.machine) walker.new.path.items }
+    ensures searched { IfOk result
+        (λ e. HasSearched (M.clauses walker.old.machine) (G.mode gathered.old)
+        (state stage (M.place walker.old.machine) walker.old.path.items (work_by work) (G.finding gathered.old))
+        (map work_by e.rest.items) (G.finding gathered.new)) }
     ensures open { IfOk result (λ e. All (λ w. w ≢ None) e.rest.items) }
-    ensures later { IfOk result (λ e. e.up ≡ No → (task : WorkValue) → IsOn stage task (work_by work) → All (λ w. IsLater (work_by w) task) e.rest.items) }
+    ensures later { IfOk result (λ e. e.up ≡ No → (task : WorkValue) → IsOn stage task (work_by work)
+        → All (λ w. IsLater (work_by w) task) e.rest.items) }
     ensures up { IfOk result (λ e. e.up ≡ up_of (saw_settled seat.new) (saw_dry seat.new)) }
     ensures seat { IsSeatOf stop.now seat.new }
     ensures late { late seat.new ≡ late seat.old }
@@ -131,12 +139,17 @@ pub fn explore<M: SearchMachine, G: Gatherer, L: Ledger>(
     requires open { task.now ≢ None }
     requires budget { 1 ≤ budget }
     requires seat { IsSeatOf stop.now seat.old }
-    requires under { IsUnderCall (M.clauses walker.old.machine) (G.call gathered.old) (M.place walker.old.machine) walker.old.path.items (work_by task.now) }
+    requires under { IsUnderCall (M.clauses walker.old.machine) (G.call gathered.old) (M.place walker.old.machine)
+        walker.old.path.items (work_by task.now) }
     ensures clauses { M.clauses walker.new.machine ≡ M.clauses walker.old.machine }
     ensures mode { G.mode gathered.new ≡ G.mode gathered.old }
     ensures call { G.call gathered.new ≡ G.call gathered.old }
-    ensures stands { StaysOver (M.clauses walker.old.machine) (M.place walker.old.machine) walker.old.path.items (M.place walker.new.machine) walker.new.path.items }
-    ensures gathered { IfOk result (λ e. HasGathered (M.clauses walker.old.machine) (G.mode gathered.old) (M.place walker.old.machine) walker.old.path.items (work_by task.now) (G.finding gathered.old) (map work_by e.rest.items) (G.finding gathered.new)) }
+    ensures stands { StaysOver (M.clauses walker.old.machine) (M.place walker.old.machine) walker.old.path.items
+        (M.place walker.new.machine) walker.new.path.items }
+    ensures gathered { IfOk result
+        (λ e. HasGathered (M.clauses walker.old.machine) (G.mode gathered.old) (M.place walker.old.machine)
+        walker.old.path.items (work_by task.now) (G.finding gathered.old) (map work_by e.rest.items)
+        (G.finding gathered.new)) }
     ensures open { IfOk result (λ e. All (λ w. w ≢ None) e.rest.items) }
     ensures later { IfOk result (λ e. e.up ≡ No → All (λ w. IsLater (work_by w) (work_by task.now)) e.rest.items) }
     ensures budget { IfOk result (λ e. e.up ≡ No → e.rest.items ≢ [] → steps.old + budget ≤ steps.new) }

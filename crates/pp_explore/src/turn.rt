@@ -20,8 +20,10 @@ use std::sync::ledger::Ledger;
 /// nothing is.
 fn leave<M: SearchMachine>(walker: &mut Walker<M>, work: &mut Work) -> bool
     ensures clauses { M.clauses walker.new.machine ≡ M.clauses walker.old.machine }
-    ensures left { HasLeft (M.place walker.old.machine) walker.old.path.items (work_by work.old) result (M.place walker.new.machine) walker.new.path.items (work_by work.new) }
-    ensures stands { StaysOver (M.clauses walker.old.machine) (M.place walker.old.machine) walker.old.path.items (M.place walker.new.machine) walker.new.path.items }
+    ensures left { HasLeft (M.place walker.old.machine) walker.old.path.items (work_by work.old) result
+        (M.place walker.new.machine) walker.new.path.items (work_by work.new) }
+    ensures stands { StaysOver (M.clauses walker.old.machine) (M.place walker.old.machine) walker.old.path.items
+        (M.place walker.new.machine) walker.new.path.items }
 {
     if !work.next() {
         return false;
@@ -34,8 +36,10 @@ fn leave<M: SearchMachine>(walker: &mut Walker<M>, work: &mut Work) -> bool
 /// Gives up what the work's path leads to. The alternatives of the choice here that come before this place fail.
 fn give_up<M: SearchMachine>(walker: &mut Walker<M>, work: &mut Work, from: u64) -> Turned
     ensures clauses { M.clauses walker.new.machine ≡ M.clauses walker.old.machine }
-    ensures gives_up { GivesUp (M.clauses walker.old.machine) (M.place walker.old.machine) walker.old.path.items (work_by work.old) from result (M.place walker.new.machine) walker.new.path.items (work_by work.new) }
-    ensures stands { StaysOver (M.clauses walker.old.machine) (M.place walker.old.machine) walker.old.path.items (M.place walker.new.machine) walker.new.path.items }
+    ensures gives_up { GivesUp (M.clauses walker.old.machine) (M.place walker.old.machine) walker.old.path.items
+        (work_by work.old) from result (M.place walker.new.machine) walker.new.path.items (work_by work.new) }
+    ensures stands { StaysOver (M.clauses walker.old.machine) (M.place walker.old.machine) walker.old.path.items
+        (M.place walker.new.machine) walker.new.path.items }
 {
     let depth = walker.path.len();
     if !leave(walker, work) {
@@ -55,12 +59,17 @@ fn enter<M: SearchMachine, G: Gatherer, L: Ledger>(
     left: &mut u32,
     steps: &mut Steps<L>,
 ) -> Result<Turned, AllocError>
-    requires { IsReady (M.clauses walker.old.machine) (G.call gathered.old) (state Enter (M.place walker.old.machine) walker.old.path.items (work_by work.old) (G.finding gathered.old)) }
+    requires { IsReady (M.clauses walker.old.machine) (G.call gathered.old)
+        (state Enter (M.place walker.old.machine) walker.old.path.items (work_by work.old) (G.finding gathered.old)) }
     ensures clauses { M.clauses walker.new.machine ≡ M.clauses walker.old.machine }
     ensures mode { G.mode gathered.new ≡ G.mode gathered.old }
     ensures call { G.call gathered.new ≡ G.call gathered.old }
-    ensures turns { IfOk result (λ t. Turns (M.clauses walker.old.machine) (G.mode gathered.old) (G.call gathered.old) (state Enter (M.place walker.old.machine) walker.old.path.items (work_by work.old) (G.finding gathered.old)) t (M.place walker.new.machine) walker.new.path.items (work_by work.new) (G.finding gathered.new)) }
-    ensures stands { StaysOver (M.clauses walker.old.machine) (M.place walker.old.machine) walker.old.path.items (M.place walker.new.machine) walker.new.path.items }
+    ensures turns { IfOk result (λ t.
+        Turns (M.clauses walker.old.machine) (G.mode gathered.old) (G.call gathered.old)
+        (state Enter (M.place walker.old.machine) walker.old.path.items (work_by work.old) (G.finding gathered.old)) t
+        (M.place walker.new.machine) walker.new.path.items (work_by work.new) (G.finding gathered.new)) }
+    ensures stands { StaysOver (M.clauses walker.old.machine) (M.place walker.old.machine) walker.old.path.items
+        (M.place walker.new.machine) walker.new.path.items }
     ensures paid { IfOk result (λ _. steps.old + left.old ≤ steps.new + left.new) }
     ensures at_most { steps.new ≤ steps.old + 1 }
 {
@@ -96,8 +105,11 @@ fn try_one<M: SearchMachine, L: Ledger>(
     requires choice { HasChoice (M.clauses walker.old.machine) (M.place walker.old.machine).here at }
     requires place { IsPlaceOf (work_by work.old) at }
     ensures clauses { M.clauses walker.new.machine ≡ M.clauses walker.old.machine }
-    ensures tries { IfOk result (λ t. (from : ℕ) → Tries (M.clauses walker.old.machine) (M.place walker.old.machine) walker.old.path.items (work_by work.old) from t (M.place walker.new.machine) walker.new.path.items (work_by work.new)) }
-    ensures stands { StaysOver (M.clauses walker.old.machine) (M.place walker.old.machine) walker.old.path.items (M.place walker.new.machine) walker.new.path.items }
+    ensures tries { IfOk result (λ t. (from : ℕ)
+        → Tries (M.clauses walker.old.machine) (M.place walker.old.machine) walker.old.path.items (work_by work.old)
+        from t (M.place walker.new.machine) walker.new.path.items (work_by work.new)) }
+    ensures stands { StaysOver (M.clauses walker.old.machine) (M.place walker.old.machine) walker.old.path.items
+        (M.place walker.new.machine) walker.new.path.items }
     ensures paid { IfOk result (λ _. steps.old + left.old ≤ steps.new + left.new) }
     ensures at_most { steps.new ≤ steps.old + 1 }
 {
@@ -126,8 +138,10 @@ fn last_level(work: &Work) -> Level
 fn pass_over<M: SearchMachine>(walker: &mut Walker<M>, work: &mut Work, from: u64) -> Turned
     requires { 1 ≤ length (levels_of work.old) }
     ensures clauses { M.clauses walker.new.machine ≡ M.clauses walker.old.machine }
-    ensures passes { PassesOver (M.clauses walker.old.machine) (M.place walker.old.machine) walker.old.path.items (work_by work.old) from result (M.place walker.new.machine) walker.new.path.items (work_by work.new) }
-    ensures stands { StaysOver (M.clauses walker.old.machine) (M.place walker.old.machine) walker.old.path.items (M.place walker.new.machine) walker.new.path.items }
+    ensures passes { PassesOver (M.clauses walker.old.machine) (M.place walker.old.machine) walker.old.path.items
+        (work_by work.old) from result (M.place walker.new.machine) walker.new.path.items (work_by work.new) }
+    ensures stands { StaysOver (M.clauses walker.old.machine) (M.place walker.old.machine) walker.old.path.items
+        (M.place walker.new.machine) walker.new.path.items }
 {
     let last = last_level(work);
     let to = from.min(last.end.saturating_sub(1));
@@ -146,10 +160,14 @@ fn attempt<M: SearchMachine, L: Ledger>(
     left: &mut u32,
     steps: &mut Steps<L>,
 ) -> Result<Turned, AllocError>
-    requires { FitsWork (M.clauses walker.old.machine) (Try from) (M.place walker.old.machine) walker.old.path.items (work_by work.old) }
+    requires { FitsWork (M.clauses walker.old.machine) (Try from) (M.place walker.old.machine) walker.old.path.items
+        (work_by work.old) }
     ensures clauses { M.clauses walker.new.machine ≡ M.clauses walker.old.machine }
-    ensures tries { IfOk result (λ t. Tries (M.clauses walker.old.machine) (M.place walker.old.machine) walker.old.path.items (work_by work.old) from t (M.place walker.new.machine) walker.new.path.items (work_by work.new)) }
-    ensures stands { StaysOver (M.clauses walker.old.machine) (M.place walker.old.machine) walker.old.path.items (M.place walker.new.machine) walker.new.path.items }
+    ensures tries { IfOk result (λ t.
+        Tries (M.clauses walker.old.machine) (M.place walker.old.machine) walker.old.path.items (work_by work.old) from
+        t (M.place walker.new.machine) walker.new.path.items (work_by work.new)) }
+    ensures stands { StaysOver (M.clauses walker.old.machine) (M.place walker.old.machine) walker.old.path.items
+        (M.place walker.new.machine) walker.new.path.items }
     ensures paid { IfOk result (λ _. steps.old + left.old ≤ steps.new + left.new) }
     ensures at_most { steps.new ≤ steps.old + 1 }
 {
@@ -178,12 +196,17 @@ pub(crate) fn turn<M: SearchMachine, G: Gatherer, L: Ledger>(
     left: &mut u32,
     steps: &mut Steps<L>,
 ) -> Result<Turned, AllocError>
-    requires { IsReady (M.clauses walker.old.machine) (G.call gathered.old) (state stage (M.place walker.old.machine) walker.old.path.items (work_by work.old) (G.finding gathered.old)) }
+    requires { IsReady (M.clauses walker.old.machine) (G.call gathered.old)
+        (state stage (M.place walker.old.machine) walker.old.path.items (work_by work.old) (G.finding gathered.old)) }
     ensures clauses { M.clauses walker.new.machine ≡ M.clauses walker.old.machine }
     ensures mode { G.mode gathered.new ≡ G.mode gathered.old }
     ensures call { G.call gathered.new ≡ G.call gathered.old }
-    ensures turns { IfOk result (λ t. Turns (M.clauses walker.old.machine) (G.mode gathered.old) (G.call gathered.old) (state stage (M.place walker.old.machine) walker.old.path.items (work_by work.old) (G.finding gathered.old)) t (M.place walker.new.machine) walker.new.path.items (work_by work.new) (G.finding gathered.new)) }
-    ensures stands { StaysOver (M.clauses walker.old.machine) (M.place walker.old.machine) walker.old.path.items (M.place walker.new.machine) walker.new.path.items }
+    ensures turns { IfOk result (λ t.
+        Turns (M.clauses walker.old.machine) (G.mode gathered.old) (G.call gathered.old)
+        (state stage (M.place walker.old.machine) walker.old.path.items (work_by work.old) (G.finding gathered.old)) t
+        (M.place walker.new.machine) walker.new.path.items (work_by work.new) (G.finding gathered.new)) }
+    ensures stands { StaysOver (M.clauses walker.old.machine) (M.place walker.old.machine) walker.old.path.items
+        (M.place walker.new.machine) walker.new.path.items }
     ensures paid { IfOk result (λ _. steps.old + left.old ≤ steps.new + left.new) }
     ensures at_most { steps.new ≤ steps.old + 1 }
 {

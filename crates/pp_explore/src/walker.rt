@@ -32,8 +32,11 @@ impl<M: SearchMachine> Walker<M> {
     pub(crate) fn back_to(&mut self, depth: usize)
         ensures clauses { M.clauses self.new.machine ≡ M.clauses self.old.machine }
         ensures path { self.new.path.items ≡ take depth self.old.path.items }
-        ensures place { M.place self.new.machine ≡ back_by (length self.old.path.items - depth) (M.place self.old.machine).above (M.place self.old.machine).here }
-        ensures stands { StaysOver (M.clauses self.old.machine) (M.place self.old.machine) self.old.path.items (M.place self.new.machine) self.new.path.items }
+        ensures place { M.place self.new.machine
+            ≡ back_by (length self.old.path.items - depth) (M.place self.old.machine).above
+            (M.place self.old.machine).here }
+        ensures stands { StaysOver (M.clauses self.old.machine) (M.place self.old.machine) self.old.path.items
+            (M.place self.new.machine) self.new.path.items }
     {
         while self.path.len() > depth {
             self.path.pop();
@@ -49,7 +52,9 @@ impl<M: SearchMachine> Walker<M> {
     ) -> Result<bool, AllocError>
         requires { HasChoice (M.clauses self.old.machine) (M.place self.old.machine).here at }
         ensures clauses { M.clauses self.new.machine ≡ M.clauses self.old.machine }
-        ensures took { IfOk result (λ goes. Took (M.clauses self.old.machine) (M.place self.old.machine) self.old.path.items at goes (M.place self.new.machine) self.new.path.items) }
+        ensures took { IfOk result (λ goes.
+            Took (M.clauses self.old.machine) (M.place self.old.machine) self.old.path.items at goes
+            (M.place self.new.machine) self.new.path.items) }
         ensures place { OnErr result (M.place self.new.machine ≡ M.place self.old.machine) }
         ensures path { OnErr result (self.new.path.items ≡ self.old.path.items) }
         ensures steps { IfOk result (λ _. steps.new ≡ steps.old + 1) }

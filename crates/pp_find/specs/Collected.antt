@@ -19,7 +19,8 @@ pub record Collected : Type 0 where
   pub finding : Finding
 
 abbrev pub collected_code : Coded Collected
-collected_code = code_by (Mode × (Row × Finding)) (coded× mode.the_row.coded (coded× row_code finding.the_row.coded)) (λ c. (c.mode, (c.call, c.finding))) (λ p. record { mode = p.0; call = p.1.0; finding = p.1.1 }) (λ _. refl)
+collected_code = code_by (Mode × (Row × Finding)) (coded× mode.the_row.coded (coded× row_code finding.the_row.coded))
+    (λ c. (c.mode, (c.call, c.finding))) (λ p. record { mode = p.0; call = p.1.0; finding = p.1.1 }) (λ _. refl)
 
 -- the finding that is kept: the loose ends' rows are joined to those of the answers
 abbrev pub found_by : Known → Finding

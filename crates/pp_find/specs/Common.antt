@@ -31,7 +31,8 @@ pub record IsBound (call : Row) (g : Option Row) (w : Row) : Type 0 where
   pub covers : CoversIfSome (Some w) g
   pub apart : RowCovers w call → ⊥
 
--- answers and loose ends of a search with this call, a bound, and whether the answers have no more in common than the call
+-- answers and loose ends of a search with this call, a bound, and whether the answers have no more in common than the
+-- call
 pub record Keeps (call : Row) (answers loose : List Row) (bound : Option Row) (reached : Bool) : Type 0 where
   pub answers_under : LieUnder call answers
   pub loose_under : LieUnder call loose

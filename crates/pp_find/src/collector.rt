@@ -34,7 +34,8 @@ impl Model for Collector {
 
     ghost view = { λ s. record { mode = s.findings.mode; call = s.findings.call; finding = found_by s.known } };
 
-    ghost invariant = { λ s. ∥ FitsIn (mode_of s.findings.mode) s.findings.call (found_by s.known) ∥₁ × ∥ IsKnown s.findings.call s.known ∥₁ };
+    ghost invariant = { λ s. ∥ FitsIn (mode_of s.findings.mode) s.findings.call (found_by s.known) ∥₁
+        × ∥ IsKnown s.findings.call s.known ∥₁ };
 }
 
 impl Collector {
@@ -56,7 +57,9 @@ impl Collector {
         requires under { RowCovers self.old.call row }
         ensures mode { self.new.mode ≡ self.old.mode }
         ensures call { self.new.call ≡ self.old.call }
-        ensures added { IfOk result (λ _. finding_by self.new.finding ≡ lattice.add_answer (mode_of self.old.mode) row (finding_by self.old.finding)) }
+        ensures added { IfOk result (λ _.
+            finding_by self.new.finding ≡ lattice.add_answer (mode_of self.old.mode) row
+            (finding_by self.old.finding)) }
         ensures err { OnErr result (self.new.finding ≡ self.old.finding) }
     {
         let Collector { findings, known } = self;
@@ -70,7 +73,8 @@ impl Collector {
         requires under { RowCovers self.old.call row }
         ensures mode { self.new.mode ≡ self.old.mode }
         ensures call { self.new.call ≡ self.old.call }
-        ensures added { IfOk result (λ _. finding_by self.new.finding ≡ lattice.add_loose (mode_of self.old.mode) row (finding_by self.old.finding)) }
+        ensures added { IfOk result (λ _.
+            finding_by self.new.finding ≡ lattice.add_loose (mode_of self.old.mode) row (finding_by self.old.finding)) }
         ensures err { OnErr result (self.new.finding ≡ self.old.finding) }
     {
         let Collector { findings, known } = self;
@@ -79,14 +83,18 @@ impl Collector {
 
     /// A row that covers only answers that change nothing, where there is one.
     pub fn answer_cover(&self) -> Option<&Row>
-        ensures { IfSome result (λ cover. (row : RowValue) → lattice.IsUnder self.now.call row → RowCovers cover.now row → lattice.add_answer (mode_of self.now.mode) row (finding_by self.now.finding) ≡ finding_by self.now.finding) }
+        ensures { IfSome result (λ cover. (row : RowValue) → lattice.IsUnder self.now.call row → RowCovers cover.now row
+            → lattice.add_answer (mode_of self.now.mode) row (finding_by self.now.finding)
+            ≡ finding_by self.now.finding) }
     {
         self.known.answer_cover(&self.findings)
     }
 
     /// A row that covers only loose ends that change nothing, where there is one.
     pub fn loose_cover(&self) -> Option<&Row>
-        ensures { IfSome result (λ cover. (row : RowValue) → lattice.IsUnder self.now.call row → RowCovers cover.now row → lattice.add_loose (mode_of self.now.mode) row (finding_by self.now.finding) ≡ finding_by self.now.finding) }
+        ensures { IfSome result (λ cover. (row : RowValue) → lattice.IsUnder self.now.call row → RowCovers cover.now row
+            → lattice.add_loose (mode_of self.now.mode) row (finding_by self.now.finding)
+            ≡ finding_by self.now.finding) }
     {
         self.known.loose_cover(&self.findings)
     }

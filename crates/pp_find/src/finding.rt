@@ -51,7 +51,8 @@ impl Finding {
 
     /// Whether one answer more changes nothing, whatever its row is.
     pub(crate) fn knows_answers(&self) -> bool
-        ensures { IsTrue result → (m : ModeValue) (call row : RowValue) → ∥ FitsIn m call self.now ∥₁ → add_answer m row (finding_by self.now) ≡ finding_by self.now }
+        ensures { IsTrue result → (m : ModeValue) (call row : RowValue) → ∥ FitsIn m call self.now ∥₁
+            → add_answer m row (finding_by self.now) ≡ finding_by self.now }
     {
         match self {
             Finding::Most { .. } => false,
@@ -65,7 +66,8 @@ impl Finding {
 
     /// The same of one loose end more.
     pub(crate) fn knows_loose(&self) -> bool
-        ensures { IsTrue result → (m : ModeValue) (call row : RowValue) → ∥ FitsIn m call self.now ∥₁ → add_loose m row (finding_by self.now) ≡ finding_by self.now }
+        ensures { IsTrue result → (m : ModeValue) (call row : RowValue) → ∥ FitsIn m call self.now ∥₁
+            → add_loose m row (finding_by self.now) ≡ finding_by self.now }
     {
         match self {
             Finding::Most { .. } => false,

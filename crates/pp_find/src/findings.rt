@@ -84,7 +84,8 @@ impl Findings {
         requires fits { ∥ FitsIn (mode_of self.now.mode) self.now.call finding.old ∥₁ }
         requires under { RowCovers self.now.call row }
         ensures fits { ∥ FitsIn (mode_of self.now.mode) self.now.call finding.new ∥₁ }
-        ensures taken { IfOk result (λ _. finding_by finding.new ≡ lattice.add_answer (mode_of self.now.mode) row (finding_by finding.old)) }
+        ensures taken { IfOk result (λ _.
+            finding_by finding.new ≡ lattice.add_answer (mode_of self.now.mode) row (finding_by finding.old)) }
         ensures err { OnErr result (finding.new ≡ finding.old) }
     {
         let _canonical = row.columns();
@@ -101,7 +102,8 @@ impl Findings {
         requires fits { ∥ FitsIn (mode_of self.now.mode) self.now.call finding.old ∥₁ }
         requires under { RowCovers self.now.call row.now }
         ensures fits { ∥ FitsIn (mode_of self.now.mode) self.now.call finding.new ∥₁ }
-        ensures taken { IfOk result (λ _. finding_by finding.new ≡ lattice.add_loose (mode_of self.now.mode) row.now (finding_by finding.old)) }
+        ensures taken { IfOk result (λ _.
+            finding_by finding.new ≡ lattice.add_loose (mode_of self.now.mode) row.now (finding_by finding.old)) }
         ensures err { OnErr result (finding.new ≡ finding.old) }
     {
         let _canonical = row.columns();
@@ -118,7 +120,8 @@ impl Findings {
         requires fits { ∥ FitsIn (mode_of self.now.mode) self.now.call finding.now ∥₁ }
         requires under { RowCovers self.now.call row.now }
         ensures fits { IfOk result (λ more. ∥ FitsIn (mode_of self.now.mode) self.now.call more ∥₁) }
-        ensures added { IfOk result (λ more. finding_by more ≡ lattice.add_answer (mode_of self.now.mode) row.now (finding_by finding.now)) }
+        ensures added { IfOk result (λ more.
+            finding_by more ≡ lattice.add_answer (mode_of self.now.mode) row.now (finding_by finding.now)) }
     {
         let mut more = finding.copy()?;
         self.take_answer(&mut more, row.copy()?)?;
@@ -130,7 +133,8 @@ impl Findings {
         requires fits { ∥ FitsIn (mode_of self.now.mode) self.now.call finding.now ∥₁ }
         requires under { RowCovers self.now.call row.now }
         ensures fits { IfOk result (λ more. ∥ FitsIn (mode_of self.now.mode) self.now.call more ∥₁) }
-        ensures added { IfOk result (λ more. finding_by more ≡ lattice.add_loose (mode_of self.now.mode) row.now (finding_by finding.now)) }
+        ensures added { IfOk result (λ more.
+            finding_by more ≡ lattice.add_loose (mode_of self.now.mode) row.now (finding_by finding.now)) }
     {
         let mut more = finding.copy()?;
         self.take_loose(&mut more, row)?;

@@ -42,7 +42,9 @@ impl Known {
         requires under { RowCovers findings.now.call row }
         ensures fits { ∥ FitsIn (mode_of findings.now.mode) findings.now.call (found_by self.new) ∥₁ }
         ensures known { ∥ IsKnown findings.now.call self.new ∥₁ }
-        ensures added { IfOk result (λ _. finding_by (found_by self.new) ≡ lattice.add_answer (mode_of findings.now.mode) row (finding_by (found_by self.old))) }
+        ensures added { IfOk result (λ _.
+            finding_by (found_by self.new)
+            ≡ lattice.add_answer (mode_of findings.now.mode) row (finding_by (found_by self.old))) }
         ensures err { OnErr result (found_by self.new ≡ found_by self.old) }
     {
         let _canonical = row.columns();
@@ -60,7 +62,9 @@ impl Known {
         requires under { RowCovers findings.now.call row }
         ensures fits { ∥ FitsIn (mode_of findings.now.mode) findings.now.call (found_by self.new) ∥₁ }
         ensures known { ∥ IsKnown findings.now.call self.new ∥₁ }
-        ensures added { IfOk result (λ _. finding_by (found_by self.new) ≡ lattice.add_loose (mode_of findings.now.mode) row (finding_by (found_by self.old))) }
+        ensures added { IfOk result (λ _.
+            finding_by (found_by self.new)
+            ≡ lattice.add_loose (mode_of findings.now.mode) row (finding_by (found_by self.old))) }
         ensures err { OnErr result (found_by self.new ≡ found_by self.old) }
     {
         let _canonical = row.columns();
@@ -75,7 +79,9 @@ impl Known {
     pub(crate) fn answer_cover<'a>(&'a self, findings: &'a Findings) -> Option<&'a Row>
         requires fits { ∥ FitsIn (mode_of findings.now.mode) findings.now.call (found_by self.now) ∥₁ }
         requires known { ∥ IsKnown findings.now.call self.now ∥₁ }
-        ensures { IfSome result (λ w. (r : RowValue) → lattice.IsUnder findings.now.call r → RowCovers w.now r → lattice.add_answer (mode_of findings.now.mode) r (finding_by (found_by self.now)) ≡ finding_by (found_by self.now)) }
+        ensures { IfSome result (λ w. (r : RowValue) → lattice.IsUnder findings.now.call r → RowCovers w.now r
+            → lattice.add_answer (mode_of findings.now.mode) r (finding_by (found_by self.now))
+            ≡ finding_by (found_by self.now)) }
     {
         match self {
             Known::Most(leaves) => leaves.answer_cover(&findings.call),
@@ -93,7 +99,9 @@ impl Known {
     pub(crate) fn loose_cover<'a>(&'a self, findings: &'a Findings) -> Option<&'a Row>
         requires fits { ∥ FitsIn (mode_of findings.now.mode) findings.now.call (found_by self.now) ∥₁ }
         requires known { ∥ IsKnown findings.now.call self.now ∥₁ }
-        ensures { IfSome result (λ w. (r : RowValue) → lattice.IsUnder findings.now.call r → RowCovers w.now r → lattice.add_loose (mode_of findings.now.mode) r (finding_by (found_by self.now)) ≡ finding_by (found_by self.now)) }
+        ensures { IfSome result (λ w. (r : RowValue) → lattice.IsUnder findings.now.call r → RowCovers w.now r
+            → lattice.add_loose (mode_of findings.now.mode) r (finding_by (found_by self.now))
+            ≡ finding_by (found_by self.now)) }
     {
         match self {
             Known::Most(leaves) => leaves.loose_cover(&findings.call),

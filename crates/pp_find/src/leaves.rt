@@ -57,7 +57,8 @@ impl Leaves {
         requires kept { ∥ IsKept call.now self.old ∥₁ }
         requires under { RowCovers call.now row }
         ensures kept { ∥ IsKept call.now self.new ∥₁ }
-        ensures added { IfOk result (λ _. common self.new.answers.items ≡ join_option (common self.old.answers.items) (Some row)) }
+        ensures added { IfOk result (λ _.
+            common self.new.answers.items ≡ join_option (common self.old.answers.items) (Some row)) }
         ensures err { OnErr result (common self.new.answers.items ≡ common self.old.answers.items) }
         ensures loose { self.new.loose.items ≡ self.old.loose.items }
     {
@@ -82,7 +83,8 @@ impl Leaves {
         requires kept { ∥ IsKept call.now self.old ∥₁ }
         requires under { RowCovers call.now row }
         ensures kept { ∥ IsKept call.now self.new ∥₁ }
-        ensures added { IfOk result (λ _. common self.new.answers.items ≡ join_option (common self.old.answers.items) (Some row)) }
+        ensures added { IfOk result (λ _.
+            common self.new.answers.items ≡ join_option (common self.old.answers.items) (Some row)) }
         ensures err { OnErr result (common self.new.answers.items ≡ common self.old.answers.items) }
         ensures loose { self.new.loose.items ≡ self.old.loose.items }
     {
@@ -97,7 +99,8 @@ impl Leaves {
         self.weigh(alloc, call, row)
     }
 
-    /// One loose end more. A row that `loose_cover` covers is to be left out by the caller first: it isn't tested against
+    /// One loose end more. A row that `loose_cover` covers is to be left out by the caller first: it isn't tested
+    /// against
     /// that one again, but joined, which changes nothing.
     pub(crate) fn add_loose(
         &mut self,
@@ -109,7 +112,9 @@ impl Leaves {
         requires under { RowCovers call.now row }
         ensures kept { ∥ IsKept call.now self.new ∥₁ }
         ensures answers { self.new.answers.items ≡ self.old.answers.items }
-        ensures added { IfOk result (λ _. join_option (common self.old.answers.items) (common self.new.loose.items) ≡ join_option (join_option (common self.old.answers.items) (common self.old.loose.items)) (Some row)) }
+        ensures added { IfOk result (λ _.
+            join_option (common self.old.answers.items) (common self.new.loose.items)
+            ≡ join_option (join_option (common self.old.answers.items) (common self.old.loose.items)) (Some row)) }
         ensures err { OnErr result (common self.new.loose.items ≡ common self.old.loose.items) }
     {
         let _canonical = row.columns();
@@ -126,7 +131,8 @@ impl Leaves {
     /// The widest row of the answers, where there is one. One answer more that it covers changes nothing.
     pub(crate) fn answer_cover(&self, _call: &Row) -> Option<&Row>
         requires kept { ∥ IsKept _call.now self.now ∥₁ }
-        ensures { IfSome result (λ w. (r : RowValue) → IsUnder _call.now r → RowCovers w.now r → common self.now.answers.items ≡ join_option (common self.now.answers.items) (Some r)) }
+        ensures { IfSome result (λ w. (r : RowValue) → IsUnder _call.now r → RowCovers w.now r
+            → common self.now.answers.items ≡ join_option (common self.now.answers.items) (Some r)) }
     {
         self.answers.first()
     }
@@ -134,7 +140,9 @@ impl Leaves {
     /// The same of loose ends; where there is no answer, by the widest of their own rows.
     pub(crate) fn loose_cover(&self, _call: &Row) -> Option<&Row>
         requires kept { ∥ IsKept _call.now self.now ∥₁ }
-        ensures { IfSome result (λ w. (r : RowValue) → IsUnder _call.now r → RowCovers w.now r → join_option (common self.now.answers.items) (common self.now.loose.items) ≡ join_option (join_option (common self.now.answers.items) (common self.now.loose.items)) (Some r)) }
+        ensures { IfSome result (λ w. (r : RowValue) → IsUnder _call.now r → RowCovers w.now r
+            → join_option (common self.now.answers.items) (common self.now.loose.items)
+            ≡ join_option (join_option (common self.now.answers.items) (common self.now.loose.items)) (Some r)) }
     {
         match self.answers.first() {
             Some(row) => Some(row),
@@ -148,7 +156,9 @@ impl Leaves {
         ensures kept { ∥ IsKept call.now self.new ∥₁ }
         ensures answers { common self.new.answers.items ≡ common self.old.answers.items }
         ensures loose { common self.new.loose.items ≡ common self.old.loose.items }
-        ensures found { IfOk result (λ f. f ≡ Most (common self.old.answers.items) (join_option (common self.old.answers.items) (common self.old.loose.items))) }
+        ensures found { IfOk result (λ f.
+            f ≡ Most (common self.old.answers.items)
+            (join_option (common self.old.answers.items) (common self.old.loose.items))) }
     {
         let g = joined_rows(alloc, &mut self.answers)?;
         let loose = joined_rows(alloc, &mut self.loose)?;

@@ -1,4 +1,5 @@
-//! Rows that stand for what all of them have in common, the largest first: so one row more is not joined with all at once.
+//! Rows that stand for what all of them have in common, the largest first: so one row more is not joined with all at
+//! once.
 ghost use Rattle.std.specs.Prelude.{◌≡◌, ◌≤◌, ◌+◌, [], ◌∷◌, true, false, Some, IsTrue, IfOk, OnErr, OnOk, length};
 ghost use Rattle.pp_algebra.specs.Rows.{Row as RowValue};
 ghost use Rattle.pp_sld.specs.Findings.{join_option};

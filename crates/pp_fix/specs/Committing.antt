@@ -15,11 +15,13 @@ is_fail v = false
 
 -- the goal of this number has this verdict under its face
 abbrev pub IsVerdictAt : Program → List Asked → ℕ → Row → ℕ → Verdict → Type 0
-IsVerdictAt clauses goals depth store k v = (a : Asked) → goal_at goals k ≡ Some a → HasVerdict clauses depth a.mode a.goal.shape (face store a.goal) v
+IsVerdictAt clauses goals depth store k v = (a : Asked) → goal_at goals k ≡ Some a
+    → HasVerdict clauses depth a.mode a.goal.shape (face store a.goal) v
 
 -- this shape, mode and face are searched for the goal of this number
 abbrev pub IsQuestionAt : List Asked → Row → ℕ → Shape → Mode → Row → Type 0
-IsQuestionAt goals store k shape mode under = (a : Asked) → goal_at goals k ≡ Some a → (a.goal.shape ≡ shape) × (a.mode ≡ mode) × (face store a.goal ≡ under)
+IsQuestionAt goals store k shape mode under = (a : Asked) → goal_at goals k ≡ Some a
+    → (a.goal.shape ≡ shape) × (a.mode ≡ mode) × (face store a.goal ≡ under)
 
 -- a row to which a goal is narrowed has a column for each variable of its face
 abbrev pub IsWideAt : Row → Verdict → Type 0
@@ -56,5 +58,7 @@ pub record HaveNotedInPart (goals : List Asked) (t : TurnOf) (store : Row) (old 
 -- a turn that was broken off for want of memory: nothing was done, or some watchers were told, or all was done
 pub data IsBrokenOff (goals : List Asked) (t : TurnOf) (store next : Row) (old new : List Watcher) : Type 0 where
   before_it : next ≡ store → new ≡ old → IsBrokenOff goals t store next old new
-  while_told : is_fail t.verdict ≡ false → next ≡ store → HaveNotedInPart goals t store old new → IsBrokenOff goals t store next old new
-  behind_it : IsAfterTurn goals t store next → HaveNotedTurn goals t store old new → IsBrokenOff goals t store next old new
+  while_told : is_fail t.verdict ≡ false → next ≡ store → HaveNotedInPart goals t store old new
+      → IsBrokenOff goals t store next old new
+  behind_it : IsAfterTurn goals t store next → HaveNotedTurn goals t store old new
+      → IsBrokenOff goals t store next old new

@@ -18,7 +18,8 @@ end_by No = no
 end_by Stopped = stopped
 
 -- from this store there is a run that ends so, in that store, and the watchers have noted its changes
-pub record IsFixed (clauses : Program) (goals : List Asked) (depth turns : ℕ) (begun last : Row) (old new : List Watcher) (f : Fixed) : Type 0 where
+pub record IsFixed (clauses : Program) (goals : List Asked) (depth turns : ℕ) (begun last : Row)
+    (old new : List Watcher) (f : Fixed) : Type 0 where
   pub run : Run
   pub is_run : IsRunFrom clauses goals depth turns begun run
   pub ends : run.end ≡ end_by f.end
@@ -27,9 +28,11 @@ pub record IsFixed (clauses : Program) (goals : List Asked) (depth turns : ℕ) 
   pub unfinished : f.unfinished ≡ unfinished_goals (length goals) run.history
   pub watched : new ≡ after old (changes run.history)
 
--- so many whole turns at most lead from one store to the other, and the watchers have noted their changes, or some of them that of
+-- so many whole turns at most lead from one store to the other, and the watchers have noted their changes, or some of
+-- them that of
 -- the next turn too
-pub record IsBetweenTurns (clauses : Program) (goals : List Asked) (depth turns : ℕ) (begun last : Row) (old new : List Watcher) : Type 0 where
+pub record IsBetweenTurns (clauses : Program) (goals : List Asked) (depth turns : ℕ) (begun last : Row)
+    (old new : List Watcher) : Type 0 where
   pub made : ℕ
   pub within : made ≤ turns
   pub state : State

@@ -55,8 +55,11 @@ fn narrow(
     ensures store { IfOk result (λ _. AtGoal goals.now goal (λ g. store.new.row ≡ apply store.old.row g given.now)) }
     ensures of_query { IsStoreOf goals.now store.new }
     ensures goals { wake.new.goals ≡ wake.old.goals }
-    ensures waiting { IfOk result (λ _. wake.new.waiting ≡ firsts nat_eq wake.old.waiting (woken store.old.row store.new.row [] 1 (goals_in goals.now))) }
-    ensures err { OnErr result ((store.new.row ≡ store.old.row) ⊎ AtGoal goals.now goal (λ g. store.new.row ≡ apply store.old.row g given.now)) }
+    ensures waiting { IfOk result (λ _.
+        wake.new.waiting ≡ firsts nat_eq wake.old.waiting
+        (woken store.old.row store.new.row [] 1 (goals_in goals.now))) }
+    ensures err { OnErr result ((store.new.row ≡ store.old.row)
+        ⊎ AtGoal goals.now goal (λ g. store.new.row ≡ apply store.old.row g given.now)) }
 {
     let changed = store.apply(goals, goal, given)?;
     wake_all(wake, changed.as_slice());
@@ -82,10 +85,14 @@ fn narrow_watched(
     ensures store { IfOk result (λ _. AtGoal goals.now goal (λ g. store.new.row ≡ apply store.old.row g given)) }
     ensures of_query { IsStoreOf goals.now store.new }
     ensures goals { wake.new.goals ≡ wake.old.goals }
-    ensures waiting { IfOk result (λ _. wake.new.waiting ≡ firsts nat_eq wake.old.waiting (woken store.old.row store.new.row [] 1 (goals_in goals.now))) }
-    ensures noted { OnOk result (HaveNotedTurn (goals_in goals.now) (record { turn = turn; goal = goal; verdict = narrow given }) store.old.row
+    ensures waiting { IfOk result (λ _.
+        wake.new.waiting ≡ firsts nat_eq wake.old.waiting
+        (woken store.old.row store.new.row [] 1 (goals_in goals.now))) }
+    ensures noted { OnOk result (HaveNotedTurn (goals_in goals.now)
+        (record { turn = turn; goal = goal; verdict = narrow given }) store.old.row
         (map (λ w. state w) watchers.old.items) (map (λ w. state w) watchers.new.items)) }
-    ensures err { OnErr result (IsBrokenOff (goals_in goals.now) (record { turn = turn; goal = goal; verdict = narrow given }) store.old.row store.new.row
+    ensures err { OnErr result (IsBrokenOff (goals_in goals.now)
+        (record { turn = turn; goal = goal; verdict = narrow given }) store.old.row store.new.row
         (map (λ w. state w) watchers.old.items) (map (λ w. state w) watchers.new.items)) }
 {
     let mut next = store.copy()?;
@@ -120,14 +127,21 @@ pub(crate) fn commit(
     requires flags { length progress.old.unfinished.items ≡ length (goals_in goals.now) }
     requires room { All (λ w. HasRoom (state w)) watchers.old.items }
     ensures fails { IfOk result (λ b. b ≡ not (is_fail (verdict_by verdict))) }
-    ensures store { IfOk result (λ _. AtGoal goals.now goal (λ g. store.new.row ≡ store_after store.old.row g (verdict_by verdict))) }
+    ensures store { IfOk result (λ _.
+        AtGoal goals.now goal (λ g. store.new.row ≡ store_after store.old.row g (verdict_by verdict))) }
     ensures of_query { IsStoreOf goals.now store.new }
     ensures goals { progress.new.wake.goals ≡ progress.old.wake.goals }
-    ensures waiting { IfOk result (λ _. progress.new.wake.waiting ≡ waits_after (goals_in goals.now) store.old.row store.new.row progress.old.wake.waiting (verdict_by verdict)) }
-    ensures flags { IfOk result (λ _. progress.new.unfinished.items ≡ set progress.old.unfinished.items (goal - 1) (is_unfinished (Some (verdict_by verdict)))) }
-    ensures noted { OnOk result (HaveNotedTurn (goals_in goals.now) (record { turn = turn; goal = goal; verdict = verdict_by verdict }) store.old.row
+    ensures waiting { IfOk result (λ _.
+        progress.new.wake.waiting ≡ waits_after (goals_in goals.now) store.old.row store.new.row
+        progress.old.wake.waiting (verdict_by verdict)) }
+    ensures flags { IfOk result (λ _.
+        progress.new.unfinished.items ≡ set progress.old.unfinished.items (goal - 1)
+        (is_unfinished (Some (verdict_by verdict)))) }
+    ensures noted { OnOk result (HaveNotedTurn (goals_in goals.now)
+        (record { turn = turn; goal = goal; verdict = verdict_by verdict }) store.old.row
         (map (λ w. state w) watchers.old.items) (map (λ w. state w) watchers.new.items)) }
-    ensures err { OnErr result (IsBrokenOff (goals_in goals.now) (record { turn = turn; goal = goal; verdict = verdict_by verdict }) store.old.row store.new.row
+    ensures err { OnErr result (IsBrokenOff (goals_in goals.now)
+        (record { turn = turn; goal = goal; verdict = verdict_by verdict }) store.old.row store.new.row
         (map (λ w. state w) watchers.old.items) (map (λ w. state w) watchers.new.items)) }
 {
     progress.unfinished[goal as usize - 1] = matches!(verdict, Verdict::Unfinished);

@@ -56,14 +56,18 @@ fn run<F: Fn(Shape, Mode, Row) -> Result<Verdict, AllocError>>(
     turns: u64,
     watchers: &mut Vec<Box<dyn Watcher>>,
 ) -> Result<Fixed, AllocError>
-    requires callable { (shape : _) (mode : _) (face : _) → count face.columns ≡ arguments_of shape → F.pre find shape mode face }
-    requires finds { (shape : _) (mode : _) (face : _) (r : _) → count face.columns ≡ arguments_of shape → F.post find shape mode face r
+    requires callable { (shape : _) (mode : _) (face : _) → count face.columns ≡ arguments_of shape
+        → F.pre find shape mode face }
+    requires finds { (shape : _) (mode : _) (face : _) (r : _) → count face.columns ≡ arguments_of shape
+        → F.post find shape mode face r
         → IfOk r (λ v. HasVerdict (program clauses.now) depth (mode_of mode) (shape_of shape) face (verdict_by v)) }
     requires of_query { IsStoreOf goals.now store.old }
     requires room { All (λ w. HasRoom (state w)) watchers.old.items }
-    ensures run { IfOk result (λ f. IsFixed (program clauses.now) (goals_in goals.now) depth turns store.old.row store.new.row
+    ensures run { IfOk result (λ f.
+        IsFixed (program clauses.now) (goals_in goals.now) depth turns store.old.row store.new.row
         (map (λ w. state w) watchers.old.items) (map (λ w. state w) watchers.new.items) f) }
-    ensures whole { OnErr result (IsBetweenTurns (program clauses.now) (goals_in goals.now) depth turns store.old.row store.new.row
+    ensures whole { OnErr result (IsBetweenTurns (program clauses.now) (goals_in goals.now) depth turns store.old.row
+        store.new.row
         (map (λ w. state w) watchers.old.items) (map (λ w. state w) watchers.new.items)) }
     ensures of_query { IsStoreOf goals.now store.new }
 {
@@ -127,18 +131,22 @@ pub fn fix_alone(
     requires query { IsQuery query.now }
     requires of_query { IsStoreOf query.now store.old }
     requires room { All (λ w. HasRoom (state w)) watchers.old.items }
-    ensures run { IfOk result (λ f. IsFixed (program clauses.now) (goals_in query.now) depth turns store.old.row store.new.row
+    ensures run { IfOk result (λ f.
+        IsFixed (program clauses.now) (goals_in query.now) depth turns store.old.row store.new.row
         (map (λ w. state w) watchers.old.items) (map (λ w. state w) watchers.new.items) f) }
-    ensures fixpoint { IfOk result (λ f. f.end ≡ Yes → IsFixpoint (program clauses.now) (goals_in query.now) depth store.new.row f.unfinished) }
+    ensures fixpoint { IfOk result
+        (λ f. f.end ≡ Yes → IsFixpoint (program clauses.now) (goals_in query.now) depth store.new.row f.unfinished) }
     ensures enough { IfOk result (λ f. AreEnoughTurns (goals_in query.now) store.old.row turns → f.end ≢ Stopped) }
-    ensures whole { OnErr result (IsBetweenTurns (program clauses.now) (goals_in query.now) depth turns store.old.row store.new.row
+    ensures whole { OnErr result (IsBetweenTurns (program clauses.now) (goals_in query.now) depth turns store.old.row
+        store.new.row
         (map (λ w. state w) watchers.old.items) (map (λ w. state w) watchers.new.items)) }
     ensures of_query { IsStoreOf query.now store.new }
 {
     let goals = GoalIndex::new(alloc, query)?;
     let find = |shape: Shape, mode: Mode, face: Row| -> Result<Verdict, AllocError>
         requires width { count face.columns ≡ arguments_of shape }
-        ensures verdict { IfOk result (λ v. HasVerdict (program clauses.entry.now) depth (mode_of mode) (shape_of shape) face (verdict_by v)) }
+        ensures verdict { IfOk result (λ v.
+            HasVerdict (program clauses.entry.now) depth (mode_of mode) (shape_of shape) face (verdict_by v)) }
     { searched(alloc, clauses, shape, mode, &face, depth) };
     run(find, alloc, clauses, &goals, store, depth, turns, watchers)
 }
@@ -159,11 +167,16 @@ pub fn fix_with<G: Gate, R: Threads + Wait + Sync>(
     requires of_query { IsStoreOf query.now store.old }
     requires workers { (1 ≤ settings.workers) × (settings.workers ≤ WORKER_LIMIT) }
     requires room { All (λ w. HasRoom (state w)) watchers.old.items }
-    ensures run { IfOk result (λ f. IsFixed (program clauses.now) (goals_in query.now) settings.depth settings.turns store.old.row store.new.row
+    ensures run { IfOk result (λ f.
+        IsFixed (program clauses.now) (goals_in query.now) settings.depth settings.turns store.old.row store.new.row
         (map (λ w. state w) watchers.old.items) (map (λ w. state w) watchers.new.items) f) }
-    ensures fixpoint { IfOk result (λ f. f.end ≡ Yes → IsFixpoint (program clauses.now) (goals_in query.now) settings.depth store.new.row f.unfinished) }
-    ensures enough { IfOk result (λ f. AreEnoughTurns (goals_in query.now) store.old.row settings.turns → f.end ≢ Stopped) }
-    ensures whole { OnErr result (IsBetweenTurns (program clauses.now) (goals_in query.now) settings.depth settings.turns store.old.row store.new.row
+    ensures fixpoint { IfOk result
+        (λ f. f.end ≡ Yes → IsFixpoint (program clauses.now) (goals_in query.now) settings.depth store.new.row
+        f.unfinished) }
+    ensures enough { IfOk result (λ f. AreEnoughTurns (goals_in query.now) store.old.row settings.turns
+        → f.end ≢ Stopped) }
+    ensures whole { OnErr result (IsBetweenTurns (program clauses.now) (goals_in query.now) settings.depth
+        settings.turns store.old.row store.new.row
         (map (λ w. state w) watchers.old.items) (map (λ w. state w) watchers.new.items)) }
     ensures of_query { IsStoreOf query.now store.new }
 {
@@ -177,7 +190,8 @@ pub fn fix_with<G: Gate, R: Threads + Wait + Sync>(
     let find = |shape: Shape, mode: Mode, face: Row| -> Result<Verdict, AllocError>
         requires width { count face.columns ≡ arguments_of shape }
         requires workers { (1 ≤ workers) × (workers ≤ WORKER_LIMIT) }
-        ensures verdict { IfOk result (λ v. HasVerdict (program clauses.entry.now) depth (mode_of mode) (shape_of shape) face (verdict_by v)) }
+        ensures verdict { IfOk result (λ v.
+            HasVerdict (program clauses.entry.now) depth (mode_of mode) (shape_of shape) face (verdict_by v)) }
     { infer_with(rt, alloc, clauses, shape, mode, &face, depth, workers, gate) };
     run(find, alloc, clauses, &goals, store, depth, turns, watchers)
 }

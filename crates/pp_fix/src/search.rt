@@ -32,7 +32,8 @@ pub(crate) fn asked(goals: &GoalIndex, store: &Store, goal: u32) -> Result<Quest
     requires of_query { IsStoreOf goals.now store.now }
     requires goal { IsGoalIn goals.now goal }
     ensures width { IfOk result (λ q. count q.face.columns ≡ arguments_of q.shape) }
-    ensures asked { IfOk result (λ q. IsQuestionAt (goals_in goals.now) store.now.row goal (shape_of q.shape) (mode_of q.mode) q.face) }
+    ensures asked { IfOk result (λ q.
+        IsQuestionAt (goals_in goals.now) store.now.row goal (shape_of q.shape) (mode_of q.mode) q.face) }
 {
     let annotated = goals.at(goal);
     Ok(Question {
@@ -56,7 +57,8 @@ fn uncounted<L: Ledger>(
     requires parts { blank.parts ≡ L.parts }
     requires some { 0 < blank.parts }
     requires width { count face.now.columns ≡ arguments_of shape }
-    ensures verdict { IfOk result (λ v. HasVerdict (program clauses.now) depth (mode_of mode) (shape_of shape) face.now (verdict_by v)) }
+    ensures verdict { IfOk result (λ v.
+        HasVerdict (program clauses.now) depth (mode_of mode) (shape_of shape) face.now (verdict_by v)) }
 {
     let mut steps: Steps<L> = Steps::new(blank);
     infer_alone(alloc, clauses, shape, mode, face, depth, &mut steps)
@@ -72,7 +74,8 @@ pub(crate) fn searched(
     depth: u32,
 ) -> Result<Verdict, AllocError>
     requires width { count face.now.columns ≡ arguments_of shape }
-    ensures verdict { IfOk result (λ v. HasVerdict (program clauses.now) depth (mode_of mode) (shape_of shape) face.now (verdict_by v)) }
+    ensures verdict { IfOk result (λ v.
+        HasVerdict (program clauses.now) depth (mode_of mode) (shape_of shape) face.now (verdict_by v)) }
 {
     uncounted::<Brand>(alloc, Blank::new(1), clauses, shape, mode, face, depth)
 }

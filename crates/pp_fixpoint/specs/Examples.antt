@@ -8,7 +8,8 @@ use Rattle.pp_fixpoint.specs.Fixpoints.{AreEnoughTurns}
 
 -- X and Z are 1 or 2, and Y is 2 or 3
 abbrev pub pairs_known : Row
-pairs_known = row (more (variable 0) (more (variable 1) (more (variable 2) none))) (Some one_or_two ∷ Some two_or_three ∷ Some one_or_two ∷ [])
+pairs_known = row (more (variable 0) (more (variable 1) (more (variable 2) none)))
+    (Some one_or_two ∷ Some two_or_three ∷ Some one_or_two ∷ [])
 
 -- six integers in the domains: seven turns for each of the two goals are enough, and the law says nothing of one less
 abbrev pub FourteenAreEnough : Type 0

@@ -18,14 +18,17 @@ IsAtRest v = (v ≡ same) ⊎ ((v ≡ nothing) ⊎ (v ≡ unfinished))
 
 -- under this store no goal fails or narrows, and the goals with these numbers are those that are unfinished
 pub record IsFixpoint (clauses : Program) (goals : List Asked) (depth : ℕ) (store : Row) (list : List ℕ) : Type 0 where
-  pub at_rest : (k : ℕ) (a : Asked) → goal_at goals k ≡ Some a → (v : Verdict) × HasVerdictUnder clauses depth store a v × IsAtRest v
-  pub listed : (k : ℕ) → IsIn k list ↔ ((a : Asked) × (goal_at goals k ≡ Some a) × HasVerdictUnder clauses depth store a unfinished)
+  pub at_rest : (k : ℕ) (a : Asked) → goal_at goals k ≡ Some a
+      → (v : Verdict) × HasVerdictUnder clauses depth store a v × IsAtRest v
+  pub listed : (k : ℕ) → IsIn k list
+      ↔ ((a : Asked) × (goal_at goals k ≡ Some a) × HasVerdictUnder clauses depth store a unfinished)
 
 abbrev pub IsFinite : Option Domain → Type 0
 IsFinite None = ⊥
 IsFinite (Some d) = Unit {0}
 
--- each variable of the store has a finite domain, and for each goal there is a turn and one more for each integer in the domains
+-- each variable of the store has a finite domain, and for each goal there is a turn and one more for each integer in
+-- the domains
 pub record AreEnoughTurns (goals : List Asked) (store : Row) (turns : ℕ) : Type 0 where
   pub row : IsRow store
   pub finite : All IsFinite store.domains

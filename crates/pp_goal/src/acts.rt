@@ -44,7 +44,9 @@ fn decide_one(bindings: &Bindings, test: Test, goal: &GoalAt<'_>, first: u32) ->
     requires lent { IsLent (present bindings.now) goal.now first }
     requires arguments { count (forest goal.now.arguments.now) ≡ 1 }
     requires arity { arity_of test ≡ 1 }
-    ensures decided { decision_of result ≡ decide_of (test_of test) (givens (present bindings.now).domains (terms_in (present bindings.now) goal.now first)) }
+    ensures decided { decision_of result
+        ≡ decide_of (test_of test) (givens (present bindings.now).domains
+        (terms_in (present bindings.now) goal.now first)) }
     ensures made { IsMade (count (forest goal.now.arguments.now)) (decision_of result) }
 {
     let only = argument(bindings, goal, first, 0);
@@ -56,7 +58,9 @@ fn decide_two(bindings: &Bindings, test: Test, goal: &GoalAt<'_>, first: u32) ->
     requires lent { IsLent (present bindings.now) goal.now first }
     requires arguments { count (forest goal.now.arguments.now) ≡ 2 }
     requires arity { arity_of test ≡ 2 }
-    ensures decided { decision_of result ≡ decide_of (test_of test) (givens (present bindings.now).domains (terms_in (present bindings.now) goal.now first)) }
+    ensures decided { decision_of result
+        ≡ decide_of (test_of test) (givens (present bindings.now).domains
+        (terms_in (present bindings.now) goal.now first)) }
     ensures made { IsMade (count (forest goal.now.arguments.now)) (decision_of result) }
 {
     let left = argument(bindings, goal, first, 0);
@@ -69,7 +73,9 @@ fn decide_three(bindings: &Bindings, test: Test, goal: &GoalAt<'_>, first: u32) 
     requires lent { IsLent (present bindings.now) goal.now first }
     requires arguments { count (forest goal.now.arguments.now) ≡ 3 }
     requires arity { arity_of test ≡ 3 }
-    ensures decided { decision_of result ≡ decide_of (test_of test) (givens (present bindings.now).domains (terms_in (present bindings.now) goal.now first)) }
+    ensures decided { decision_of result
+        ≡ decide_of (test_of test) (givens (present bindings.now).domains
+        (terms_in (present bindings.now) goal.now first)) }
     ensures made { IsMade (count (forest goal.now.arguments.now)) (decision_of result) }
 {
     let x = argument(bindings, goal, first, 0);
@@ -82,7 +88,9 @@ fn decide_three(bindings: &Bindings, test: Test, goal: &GoalAt<'_>, first: u32) 
 fn decide_on(bindings: &Bindings, test: Test, goal: &GoalAt<'_>, first: u32) -> Decision
     requires lent { IsLent (present bindings.now) goal.now first }
     requires arity { count (forest goal.now.arguments.now) ≡ arity_of test }
-    ensures decided { decision_of result ≡ decide_of (test_of test) (givens (present bindings.now).domains (terms_in (present bindings.now) goal.now first)) }
+    ensures decided { decision_of result
+        ≡ decide_of (test_of test) (givens (present bindings.now).domains
+        (terms_in (present bindings.now) goal.now first)) }
     ensures made { IsMade (count (forest goal.now.arguments.now)) (decision_of result) }
 {
     match test {
@@ -112,7 +120,8 @@ fn decided(decision: Decision) -> Act
 pub fn act_on(bindings: &Bindings, goal: &GoalAt<'_>, first: u32) -> Act
     requires lent { IsLent (present bindings.now) goal.now first }
     ensures act { (cs : List Clause) (s : Shape) → Asks cs goal.now.kind s
-        → IsAct cs goal.now.kind (present bindings.now) (terms_of goal.now first) result (act_by (present bindings.now).domains (terms_in (present bindings.now) goal.now first) s) }
+        → IsAct cs goal.now.kind (present bindings.now) (terms_of goal.now first) result
+        (act_by (present bindings.now).domains (terms_in (present bindings.now) goal.now first) s) }
     ensures ready { IsReady (count (forest goal.now.arguments.now)) result }
 {
     match goal.kind {

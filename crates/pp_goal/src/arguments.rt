@@ -32,7 +32,8 @@ pub(crate) fn place_of(cells: &[Cell], place: usize) -> usize
 pub(crate) fn argument(bindings: &Bindings, goal: &GoalAt<'_>, first: u32, place: usize) -> Given
     requires lent { IsLent (present bindings.now) goal.now first }
     requires place { place < count (forest goal.now.arguments.now) }
-    ensures { given_of result ≡ given (present bindings.now).domains (column (terms_in (present bindings.now) goal.now first) place) }
+    ensures { given_of result ≡ given (present bindings.now).domains
+        (column (terms_in (present bindings.now) goal.now first) place) }
 {
     bindings.value_at(goal.arguments, place_of(goal.arguments, place), first)
 }

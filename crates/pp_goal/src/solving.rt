@@ -21,7 +21,8 @@ use std::alloc::AllocError;
 fn equate(bindings: &mut Bindings, goal: &GoalAt<'_>, first: u32) -> Result<bool, AllocError>
     requires lent { IsLent (present bindings.old) goal.now first }
     requires two { count (forest goal.now.arguments.now) ≡ 2 }
-    ensures decided { IfOk result (λ b. AreDecided (present bindings.old) (both_sides (terms_of goal.now first)) b (present bindings.new)) }
+    ensures decided { IfOk result (λ b.
+        AreDecided (present bindings.old) (both_sides (terms_of goal.now first)) b (present bindings.new)) }
     ensures kept { IsLonger bindings.old bindings.new }
 {
     let left = term_from(goal.arguments, 0);
@@ -38,7 +39,9 @@ fn narrow(
 ) -> Result<bool, AllocError>
     requires lent { IsLent (present bindings.old) goal.now first }
     requires one { count (forest goal.now.arguments.now) ≡ 1 }
-    ensures decided { IfOk result (λ b. AreDecided (present bindings.old) (first_in (members_by (option_copied domain.entry)) (terms_of goal.now first)) b (present bindings.new)) }
+    ensures decided { IfOk result (λ b.
+        AreDecided (present bindings.old) (first_in (members_by (option_copied domain.entry)) (terms_of goal.now first))
+        b (present bindings.new)) }
     ensures kept { IsLonger bindings.old bindings.new }
 {
     match domain {
@@ -57,7 +60,9 @@ pub fn perform(
 ) -> Result<bool, AllocError>
     requires lent { IsLent (present bindings.old) goal.now first }
     requires ready { IsReady (count (forest goal.now.arguments.now)) act }
-    ensures decided { IfOk result (λ b. AreDecided (present bindings.old) (items goal.now.kind (terms_of goal.now first) act) b (present bindings.new)) }
+    ensures decided { IfOk result (λ b.
+        AreDecided (present bindings.old) (items goal.now.kind (terms_of goal.now first) act) b
+        (present bindings.new)) }
     ensures kept { IsLonger bindings.old bindings.new }
 {
     match act {

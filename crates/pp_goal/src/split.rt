@@ -14,7 +14,8 @@ use pp_unify::Bindings;
 pub fn split_count(bindings: &Bindings, goal: &GoalAt<'_>, first: u32) -> u64
     requires lent { IsLent (present bindings.now) goal.now first }
     requires one { count (forest goal.now.arguments.now) ≡ 1 }
-    ensures { result ≡ length (values_of (present bindings.now).domains (terms_in (present bindings.now) goal.now first)) }
+    ensures { result ≡ length (values_of (present bindings.now).domains
+        (terms_in (present bindings.now) goal.now first)) }
 {
     match bindings.domain_at(goal.arguments, 0, first) {
         Some(domain) => {
@@ -29,8 +30,10 @@ pub fn split_count(bindings: &Bindings, goal: &GoalAt<'_>, first: u32) -> u64
 pub fn split_value(bindings: &Bindings, goal: &GoalAt<'_>, first: u32, place: u64) -> i64
     requires lent { IsLent (present bindings.now) goal.now first }
     requires one { count (forest goal.now.arguments.now) ≡ 1 }
-    requires place { place < length (values_of (present bindings.now).domains (terms_in (present bindings.now) goal.now first)) }
-    ensures value { slice_get (values_of (present bindings.now).domains (terms_in (present bindings.now) goal.now first)) place ≡ Some result }
+    requires place { place < length
+        (values_of (present bindings.now).domains (terms_in (present bindings.now) goal.now first)) }
+    ensures value { slice_get (values_of (present bindings.now).domains
+        (terms_in (present bindings.now) goal.now first)) place ≡ Some result }
     ensures integer { IsInteger result }
 {
     let Some(domain) = bindings.domain_at(goal.arguments, 0, first) else {

@@ -34,8 +34,10 @@ pub fn infer_alone<L: Ledger>(
     steps: &mut Steps<L>,
 ) -> Result<Verdict, AllocError>
     requires arguments { count face.now.columns ≡ arguments_of shape }
-    ensures verdict { IfOk result (λ v. HasVerdict (program clauses.now) depth (mode_of mode) (shape_of shape) face.now (verdict_by v)) }
-    ensures steps { IsWithinWalk (program clauses.now) (mode_of mode) (call face.now) (root (shape_of shape) face.now depth) steps.old steps.new }
+    ensures verdict { IfOk result (λ v.
+        HasVerdict (program clauses.now) depth (mode_of mode) (shape_of shape) face.now (verdict_by v)) }
+    ensures steps { IsWithinWalk (program clauses.now) (mode_of mode) (call face.now)
+        (root (shape_of shape) face.now depth) steps.old steps.new }
 {
     let mut machine = Machine::start(alloc, clauses, shape, face, depth)?;
     infer(alloc, &mut machine, mode, face.call()?, steps)

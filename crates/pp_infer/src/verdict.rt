@@ -28,8 +28,11 @@ pub fn infer<M: SearchMachine, L: Ledger>(
 ) -> Result<Verdict, AllocError>
     requires root { IsAtSomeRoot (M.place machine.old) call }
     ensures clauses { M.clauses machine.new ≡ M.clauses machine.old }
-    ensures verdict { IfOk result (λ v. (shape : Shape) (face : RowValue) (depth : ℕ) → IsAtRoot (M.place machine.old) shape face depth → call ≡ call_of face → HasVerdict (M.clauses machine.old) depth (mode_of mode) shape face (verdict_by v)) }
-    ensures steps { IsWithinWalk (M.clauses machine.old) (mode_of mode) call (M.place machine.old).here steps.old steps.new }
+    ensures verdict { IfOk result (λ v. (shape : Shape) (face : RowValue) (depth : ℕ)
+        → IsAtRoot (M.place machine.old) shape face depth → call ≡ call_of face
+        → HasVerdict (M.clauses machine.old) depth (mode_of mode) shape face (verdict_by v)) }
+    ensures steps { IsWithinWalk (M.clauses machine.old) (mode_of mode) call (M.place machine.old).here steps.old
+        steps.new }
 {
     let mut gathered = Gathered::new(alloc, mode, call);
     gather(alloc, machine, &mut gathered, steps)?;

@@ -36,7 +36,8 @@ pub fn infer_with<G: Gate, R: Threads + Wait + Sync>(
 ) -> Result<Verdict, AllocError>
     requires arguments { count face.now.columns ≡ arguments_of shape }
     requires workers { (1 ≤ workers) × (workers ≤ 64) }
-    ensures verdict { IfOk result (λ v. HasVerdict (program clauses.now) depth (mode_of mode) (shape_of shape) face.now (verdict_by v)) }
+    ensures verdict { IfOk result (λ v.
+        HasVerdict (program clauses.now) depth (mode_of mode) (shape_of shape) face.now (verdict_by v)) }
 {
     let search = Search::new(alloc, clauses, shape, mode, face, depth)?;
     search_with(rt, alloc, &search, Work::root(alloc), workers, gate)

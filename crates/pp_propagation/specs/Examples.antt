@@ -14,7 +14,10 @@ use Rattle.pp_propagation.specs.Replies.{answer_text, summary_by}
 
 -- the goal p(x, y) of a query, with `most`
 abbrev pub pair_goal : ℕ → ℕ → Asked
-pair_goal x y = record { goal = record { shape = user (record { name = 0; arity = 2 }); arguments = two_columns (variable x) (variable y) }; mode = most }
+pair_goal x y = record {
+  goal = record { shape = user (record { name = 0; arity = 2 }); arguments = two_columns (variable x) (variable y) };
+  mode = most;
+}
 
 -- p(X, Y) and p(Y, Z)
 abbrev pub chain : List Asked
@@ -29,7 +32,8 @@ abbrev pub first_given : Row
 first_given = row (two_columns (variable 0) (variable 1)) (Some one_or_two ∷ Some two_or_three ∷ [])
 
 abbrev pub ranges_known : Row
-ranges_known = row (more (variable 0) (more (variable 1) (more (variable 2) none))) (Some one_or_two ∷ Some two_or_three ∷ None ∷ [])
+ranges_known = row (more (variable 0) (more (variable 1) (more (variable 2) none)))
+    (Some one_or_two ∷ Some two_or_three ∷ None ∷ [])
 
 abbrev pub first_known : Row
 first_known = row (more (variable 0) (more (number 2) (more (number 3) none))) (Some one_or_two ∷ [])
@@ -39,7 +43,8 @@ all_known = row (more (number 1) (more (number 2) (more (number 3) none))) []
 
 -- a face numbers the store's variables anew
 abbrev pub FaceIsNumbered : Type 0
-FaceIsNumbered = face nothing_known (pair_goal 1 2).goal ≡ row (two_columns (variable 0) (variable 1)) (None ∷ None ∷ [])
+FaceIsNumbered = face nothing_known (pair_goal 1 2).goal
+    ≡ row (two_columns (variable 0) (variable 1)) (None ∷ None ∷ [])
 
 -- a row that is applied gives its domains, or its values, to the store
 abbrev pub RowIsApplied : Type 0
@@ -74,16 +79,41 @@ second_face = row (two_columns (variable 0) (variable 1)) (Some two_or_three ∷
 -- the goals 1 and 2 narrow
 abbrev pub two_turns : List Commit
 two_turns =
-    record { goal = 1; face = row (two_columns (variable 0) (variable 1)) (None ∷ None ∷ []); verdict = narrow first_given; store = ranges_known }
-    ∷ record { goal = 2; face = second_face; verdict = narrow (row (two_columns (number 2) (number 3)) []); store = first_known }
+    record {
+      goal = 1;
+      face = row (two_columns (variable 0) (variable 1)) (None ∷ None ∷ []);
+      verdict = narrow first_given;
+      store = ranges_known;
+    }
+    ∷ record {
+      goal = 2;
+      face = second_face;
+      verdict = narrow (row (two_columns (number 2) (number 3)) []);
+      store = first_known;
+    }
     ∷ []
 
 -- and then goal 1 narrows again, and both change nothing more
 abbrev pub five_turns : List Commit
 five_turns =
-    record { goal = 1; face = row (two_columns (variable 0) (variable 1)) (None ∷ None ∷ []); verdict = narrow first_given; store = ranges_known }
-    ∷ record { goal = 2; face = second_face; verdict = narrow (row (two_columns (number 2) (number 3)) []); store = first_known }
-    ∷ record { goal = 1; face = row (two_columns (variable 0) (number 2)) (Some one_or_two ∷ []); verdict = narrow (row (one_column (number 1)) []); store = all_known }
+    record {
+      goal = 1;
+      face = row (two_columns (variable 0) (variable 1)) (None ∷ None ∷ []);
+      verdict = narrow first_given;
+      store = ranges_known;
+    }
+    ∷ record {
+      goal = 2;
+      face = second_face;
+      verdict = narrow (row (two_columns (number 2) (number 3)) []);
+      store = first_known;
+    }
+    ∷ record {
+      goal = 1;
+      face = row (two_columns (variable 0) (number 2)) (Some one_or_two ∷ []);
+      verdict = narrow (row (one_column (number 1)) []);
+      store = all_known;
+    }
     ∷ record { goal = 2; face = row (two_columns (number 2) (number 3)) []; verdict = same; store = all_known }
     ∷ record { goal = 1; face = row (two_columns (number 1) (number 2)) []; verdict = same; store = all_known }
     ∷ []
@@ -92,13 +122,16 @@ abbrev pub two_verdicts : List Verdict
 two_verdicts = narrow first_given ∷ narrow (row (two_columns (number 2) (number 3)) []) ∷ []
 
 abbrev pub five_verdicts : List Verdict
-five_verdicts = narrow first_given ∷ narrow (row (two_columns (number 2) (number 3)) []) ∷ narrow (row (one_column (number 1)) []) ∷ same ∷ same ∷ []
+five_verdicts = narrow first_given ∷ narrow (row (two_columns (number 2) (number 3)) [])
+    ∷ narrow (row (one_column (number 1)) []) ∷ same ∷ same ∷ []
 
 -- after two turns both goals wait again; after five none waits
 abbrev pub GoalsTakeTurns : Type 0
 GoalsTakeTurns =
-    (after_verdicts chain two_verdicts (Some (opening chain nothing_known)) ≡ Some (record { store = first_known; waiting = 1 ∷ 2 ∷ []; history = two_turns }))
-    × (after_verdicts chain five_verdicts (Some (opening chain nothing_known)) ≡ Some (record { store = all_known; waiting = []; history = five_turns }))
+    (after_verdicts chain two_verdicts (Some (opening chain nothing_known))
+    ≡ Some (record { store = first_known; waiting = 1 ∷ 2 ∷ []; history = two_turns }))
+    × (after_verdicts chain five_verdicts (Some (opening chain nothing_known))
+    ≡ Some (record { store = all_known; waiting = []; history = five_turns }))
 
 abbrev pub first_change : Change
 first_change = record { turn = 1; goal = 1; given = first_given; store = ranges_known }
@@ -148,5 +181,6 @@ WatchersLeave =
 -- one that stays tells a line for each change
 abbrev pub ChangesAreTold : Type 0
 ChangesAreTold =
-    (told [] (after (first_few 1 ∷ recorder ∷ []) (second_change ∷ third_change ∷ [])) ≡ codes "turn 2 goal 2: 2, 3\nturn 3 goal 1: 1\n")
+    (told [] (after (first_few 1 ∷ recorder ∷ []) (second_change ∷ third_change ∷ []))
+    ≡ codes "turn 2 goal 2: 2, 3\nturn 3 goal 1: 1\n")
     × (told [] (recorder ∷ []) ≡ [])

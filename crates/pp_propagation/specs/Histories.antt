@@ -1,4 +1,5 @@
--- What is read off the turns that were made: the changes, the unfinished goals, and the goal that failed. Their number is the list's length.
+-- What is read off the turns that were made: the changes, the unfinished goals, and the goal that failed. Their number
+-- is the list's length.
 use Rattle.std.specs.Prelude.{ℕ, zero, suc, Bool, true, false, cond, nat_eq, List, [], ◌∷◌, filter, Option, Some, None}
 use Rattle.pp_algebra.specs.Rows.{Row}
 use Rattle.pp_sld.specs.Verdicts.{Verdict, fail, unfinished, narrow}

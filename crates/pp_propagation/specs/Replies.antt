@@ -37,7 +37,8 @@ answer_text names named store unfinished stopped = store_text names named store 
 
 -- the answer of a run of what a text writes
 abbrev pub answer_of : Written → Run → Text
-answer_of w r = answer_text w.names w.query.named r.store (unfinished_goals (length (goals_of w.query.items)) r.history) r.end
+answer_of w r = answer_text w.names w.query.named r.store (unfinished_goals (length (goals_of w.query.items)) r.history)
+    r.end
 
 abbrev pub summary_by : ℕ → Row → End → Text
 summary_by turns store no = failed_summary_text turns
@@ -60,17 +61,22 @@ abbrev pub told_if : Bool → List Text → List Watcher → Text
 told_if trace names ws = cond trace (told names ws) []
 
 -- what a text calls for that is not too long, and what a run makes of the watchers
-pub data IsReplyWithin (settings : Settings) (trace : Bool) (text : Text) (old new : List Watcher) (s : Status) (b : Text) : Type 0 where
-  faulty : (k : ℕ) → IsSyntaxFault text k → new ≡ old → s ≡ Syntax → b ≡ syntax_text k → IsReplyWithin settings trace text old new s b
+pub data IsReplyWithin (settings : Settings) (trace : Bool) (text : Text) (old new : List Watcher) (s : Status)
+    (b : Text) : Type 0 where
+  faulty : (k : ℕ) → IsSyntaxFault text k → new ≡ old → s ≡ Syntax → b ≡ syntax_text k
+      → IsReplyWithin settings trace text old new s b
   limited : (which : Which) → Passes text which → new ≡ old → s ≡ Limit → b ≡ limit_text (which_name which)
       → IsReplyWithin settings trace text old new s b
-  answered : (w : Written) (r : Run) → RunsAs settings text w r → new ≡ after old (changes r.history) → s ≡ status_of r.end
+  answered : (w : Written) (r : Run) → RunsAs settings text w r → new ≡ after old (changes r.history)
+      → s ≡ status_of r.end
       → b ≡ told_if trace w.names new ++ answer_of w r → IsReplyWithin settings trace text old new s b
 
 -- the length is counted before anything is read
-pub data IsReplyToText (settings : Settings) (trace : Bool) (text : Text) (old new : List Watcher) (s : Status) (b : Text) : Type 0 where
+pub data IsReplyToText (settings : Settings) (trace : Bool) (text : Text) (old new : List Watcher) (s : Status)
+    (b : Text) : Type 0 where
   too_long : IsTooLong text → new ≡ old → s ≡ Limit → b ≡ length_text → IsReplyToText settings trace text old new s b
-  within : (IsTooLong text → ⊥) → IsReplyWithin settings trace text old new s b → IsReplyToText settings trace text old new s b
+  within : (IsTooLong text → ⊥) → IsReplyWithin settings trace text old new s b
+      → IsReplyToText settings trace text old new s b
 
 -- the generated text of this number is run, and its summary written
 pub record IsSummary (settings : Settings) (number : ℕ) (old new : List Watcher) (s : Status) (b : Text) : Type 0 where
@@ -95,9 +101,11 @@ abbrev pub IsUsage : Status → Text → Type 0
 IsUsage s b = (s ≡ Usage) × (b ≡ usage_text)
 
 -- the reply of a call that serves these commands, and what it makes of the watchers
-pub data IsReply (serves : List Text → Command → Type 0) (words : List Text) (text : Text) (old new : List Watcher) (s : Status) (b : Text) : Type 0 where
+pub data IsReply (serves : List Text → Command → Type 0) (words : List Text) (text : Text) (old new : List Watcher)
+    (s : Status) (b : Text) : Type 0 where
   usage : IsUnserved serves words → new ≡ old → IsUsage s b → IsReply serves words text old new s b
-  served : (command : Command) → serves words command → IsReplyBy command.kind command text old new s b → IsReply serves words text old new s b
+  served : (command : Command) → serves words command → IsReplyBy command.kind command text old new s b
+      → IsReply serves words text old new s b
 
 -- ===== the watchers after want of memory
 
@@ -115,11 +123,14 @@ pub record NotedInARun (settings : Settings) (text : Text) (old new : List Watch
   pub made : ℕ
   pub within : made ≤ settings.turns
   pub state : State
-  pub leads : Turns (program_of written.clauses) (goals_of written.query.items) settings.depth made (opening (goals_of written.query.items) store) state
+  pub leads : Turns (program_of written.clauses) (goals_of written.query.items) settings.depth made
+      (opening (goals_of written.query.items) store) state
   pub noted : HaveNoted (program_of written.clauses) (goals_of written.query.items) settings.depth state old new
 
 -- no run was made, or some turns of one
-pub data IsOutOfMemory (serves : List Text → Command → Type 0) (words : List Text) (text : Text) (old new : List Watcher) : Type 0 where
+pub data IsOutOfMemory (serves : List Text → Command → Type 0) (words : List Text) (text : Text)
+    (old new : List Watcher) : Type 0 where
   before_a_run : new ≡ old → IsOutOfMemory serves words text old new
-  in_a_run : (command : Command) → serves words command → NotedInARun command.settings (text_of command.kind text) old new
+  in_a_run : (command : Command) → serves words command
+      → NotedInARun command.settings (text_of command.kind text) old new
       → IsOutOfMemory serves words text old new

@@ -37,7 +37,8 @@ no_store = record { end = no; store = record { columns = none; domains = [] }; h
 pub data Ends (clauses : Program) (goals : List Asked) (depth left : ℕ) (s : State) (r : Run) : Type 0 where
   none_waits : s.waiting ≡ [] → r ≡ ended yes s → Ends clauses goals depth left s r
   turns_are_made : (s.waiting ≡ [] → ⊥) → left ≡ 0 → r ≡ ended stopped s → Ends clauses goals depth left s r
-  goal_fails : (more : ℕ) → left ≡ suc more → (c : Commit) → Turn clauses goals depth s c None → r ≡ failed s c → Ends clauses goals depth left s r
+  goal_fails : (more : ℕ) → left ≡ suc more → (c : Commit) → Turn clauses goals depth s c None → r ≡ failed s c
+      → Ends clauses goals depth left s r
 
 module _ (clauses : Program) (goals : List Asked) (depth : ℕ) where
   -- so many whole turns lead from one state to another
@@ -59,7 +60,8 @@ module _ (clauses : Program) (goals : List Asked) (depth : ℕ) where
   IsRunFrom turns store r = IsRunOn turns (opening goals store) r
 
 -- the watchers between two turns, or where memory was wanted while they were told of the change of the next one
-pub data HaveNoted (clauses : Program) (goals : List Asked) (depth : ℕ) (s : State) (old new : List Watcher) : Type 0 where
+pub data HaveNoted (clauses : Program) (goals : List Asked) (depth : ℕ) (s : State)
+    (old new : List Watcher) : Type 0 where
   all_changes : new ≡ after old (changes s.history) → HaveNoted clauses goals depth s old new
   part_of_the_next : (c : Commit) (next : State) → Turn clauses goals depth s c (Some next)
       → NotedInPart (changes next.history) (changes s.history) old new → HaveNoted clauses goals depth s old new
@@ -67,4 +69,5 @@ pub data HaveNoted (clauses : Program) (goals : List Asked) (depth : ℕ) (s : S
 -- the run of a query over a program, at a depth and with so many turns at most
 pub data IsRun (clauses : Program) (q : Query) (depth turns : ℕ) (r : Run) : Type 0 where
   begins_nowhere : BeginsNowhere q → r ≡ no_store → IsRun clauses q depth turns r
-  begins : (store : Row) → Begins q store → IsRunFrom clauses (goals_of q.items) depth turns store r → IsRun clauses q depth turns r
+  begins : (store : Row) → Begins q store → IsRunFrom clauses (goals_of q.items) depth turns store r
+      → IsRun clauses q depth turns r

@@ -56,7 +56,8 @@ either_domains ds es (inr w) = es w
 
 -- a variable of the face becomes the given row's column, whose variables are fresh; any other variable stays
 abbrev pub replaced_by : Row → List ℕ → ℕ → Tree (ℕ ⊎ ℕ)
-replaced_by given vs v = cond (has nat_eq vs v) (put (λ w. variable (inr w)) (column given.columns (place nat_eq vs v))) (variable (inl v))
+replaced_by given vs v = cond (has nat_eq vs v) (put (λ w. variable (inr w)) (column given.columns (place nat_eq vs v)))
+    (variable (inl v))
 
 abbrev pub apply : Row → Goal ℕ → Row → Row
 apply store g given = canon same_either (record {

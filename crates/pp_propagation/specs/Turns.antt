@@ -1,4 +1,5 @@
--- One turn of a run: what is committed for the goal whose turn it is, and what that makes of the state between two turns.
+-- One turn of a run: what is committed for the goal whose turn it is, and what that makes of the state between two
+-- turns.
 use Rattle.std.specs.Prelude.{◌≡◌, ℕ, zero, suc, not, ◌&&◌, cond, nat_eq, List, [], ◌∷◌, ◌++◌, Option, Some, None}
 use Rattle.pp_algebra.specs.Rows.{Row}
 use Rattle.pp_algebra.specs.Canon.{has, same_row}
@@ -39,19 +40,24 @@ committed store k a v = record { goal = k; face = face store a.goal; verdict = v
 abbrev pub woken : Row → Row → List ℕ → ℕ → List Asked → List ℕ
 woken old new waiting k [] = []
 woken old new waiting k (a ∷ later) =
-    cond (not (same_row (face old a.goal) (face new a.goal)) && not (has nat_eq waiting k)) (k ∷ woken old new waiting (suc k) later) (woken old new waiting (suc k) later)
+    cond (not (same_row (face old a.goal) (face new a.goal)) && not (has nat_eq waiting k))
+    (k ∷ woken old new waiting (suc k) later) (woken old new waiting (suc k) later)
 
 abbrev pub commit : State → List ℕ → Commit → State
 commit s waiting c = record { store = c.store; waiting = waiting; history = s.history ++ c ∷ [] }
 
--- what a turn of goal number k, the goal `a`, with this verdict makes of a state in which these goals wait after it: None where the goal fails
+-- what a turn of goal number k, the goal `a`, with this verdict makes of a state in which these goals wait after it:
+-- None where the goal fails
 abbrev pub turned : List Asked → List ℕ → ℕ → Asked → Verdict → State → Option State
 turned goals later k a fail s = None
-turned goals later k a (narrow given) s = Some (commit s (later ++ woken s.store (apply s.store a.goal given) later 1 goals) (committed s.store k a (narrow given)))
+turned goals later k a (narrow given) s = Some
+    (commit s (later ++ woken s.store (apply s.store a.goal given) later 1 goals)
+    (committed s.store k a (narrow given)))
 turned goals later k a v s = Some (commit s later (committed s.store k a v))
 
 -- the first goal that waits in a state has its turn, which is committed so and makes this of the state
-pub record Turn (clauses : Program) (goals : List Asked) (depth : ℕ) (s : State) (c : Commit) (after : Option State) : Type 0 where
+pub record Turn (clauses : Program) (goals : List Asked) (depth : ℕ) (s : State) (c : Commit)
+    (after : Option State) : Type 0 where
   pub asked : Asked
   pub later : List ℕ
   pub first : s.waiting ≡ c.goal ∷ later

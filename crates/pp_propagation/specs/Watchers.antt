@@ -43,4 +43,5 @@ told names ws = flat_map (watcher_text names) ws
 -- the first of the watchers noted the one list of changes, and the others the other
 abbrev pub NotedInPart : List Change → List Change → List Watcher → List Watcher → Type 0
 NotedInPart more fewer old new =
-    (first : List Watcher) × (others : List Watcher) × (old ≡ first ++ others) × (new ≡ after first more ++ after others fewer)
+    (first : List Watcher) × (others : List Watcher) × (old ≡ first ++ others)
+    × (new ≡ after first more ++ after others fewer)

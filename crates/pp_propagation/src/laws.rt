@@ -24,7 +24,8 @@ pub fn run_is_made_of_turns()
 {}
 
 /// Words ask for at most one command. Words, a text and the watchers before call for at most one reply, which says what
-/// the watchers are then, and for one where it is known what the words ask for and what the text means. So it is for the
+/// the watchers are then, and for one where it is known what the words ask for and what the text means. So it is for
+/// the
 /// program's words, and for those of the command `alone`.
 pub fn reply_is_unique()
     ensures words { ServesOne AreWordsOf }

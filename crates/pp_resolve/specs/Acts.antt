@@ -59,7 +59,8 @@ ActsAs cs r g (Call n) = (p : Pred) × Names cs n p × (does r g ≡ Some (calls
 
 -- items of the goal, over the variables of the bindings, were solved, or they have no solution
 abbrev pub Performed : Row → Goal ℕ → Bool → Row → Type 0
-Performed r g b q = (js : List (Item ℕ)) × (does r g ≡ Some (solves (map (item_in r) js))) × All (IsItemOver r) js × AreDecided r js b q
+Performed r g b q = (js : List (Item ℕ)) × (does r g ≡ Some (solves (map (item_in r) js))) × All (IsItemOver r) js
+    × AreDecided r js b q
 
 -- the values of a split
 abbrev pub values : Row → Goal ℕ → List ℤ
@@ -67,4 +68,5 @@ values r g = values_of r.domains (placed r g).arguments
 
 -- the first argument was made equal to the value at this place, or it can't be
 abbrev pub TookValue : Row → Goal ℕ → ℕ → Bool → Row → Type 0
-TookValue r g place b q = (n : ℤ) × (slice_get (values r g) place ≡ Some n) × AreDecided r (at_place 0 n g.arguments) b q
+TookValue r g place b q = (n : ℤ) × (slice_get (values r g) place ≡ Some n)
+    × AreDecided r (at_place 0 n g.arguments) b q

@@ -47,13 +47,15 @@ bound k (Some i) = i
 module _ (cs : List Clause) (root : Goal ℕ) where
   -- what is done with the goal at a place of a body
   abbrev pub LooksAt : Row → Rest → Act → Type 0
-  LooksAt r l a = (g : Goal ℕ) → slice_get (body_of cs root l.body) l.from ≡ Some g → ActsAs cs r (put_goal (counted l.first) g) a × IsReady (count g.arguments) a
+  LooksAt r l a = (g : Goal ℕ) → slice_get (body_of cs root l.body) l.from ≡ Some g
+      → ActsAs cs r (put_goal (counted l.first) g) a × IsReady (count g.arguments) a
 
   -- a goal that may wait: it is no call
   pub record IsSuspension (s : Suspension) : Type 0 where
     pub rest : IsRest cs root 0 s.rest
     pub some : s.rest.from < s.rest.to
-    pub waits : (g : Goal ℕ) → slice_get (body_of cs root s.rest.body) s.rest.from ≡ Some g → (p : Predicate) → g.shape ≡ user p → ⊥
+    pub waits : (g : Goal ℕ) → slice_get (body_of cs root s.rest.body) s.rest.from ≡ Some g → (p : Predicate)
+        → g.shape ≡ user p → ⊥
 
   -- the variables of the first goal are below the number
   abbrev pub AreBelow : ℕ → Rest → Type 0
@@ -62,19 +64,22 @@ module _ (cs : List Clause) (root : Goal ℕ) where
   -- what is suspended over a row
   pub record AreSuspended (r : Row) (ss : List Suspension) (ds : List ℕ) : Type 0 where
     pub goals : (j : ℕ) (s : Suspension) → slice_get ss j ≡ Some s → IsSuspension s
-    pub below : (i j : ℕ) (s t : Suspension) → slice_get ss i ≡ Some s → slice_get ss j ≡ Some t → i ≤ j → AreBelow t.below s.rest
+    pub below : (i j : ℕ) (s t : Suspension) → slice_get ss i ≡ Some s → slice_get ss j ≡ Some t → i ≤ j
+        → AreBelow t.below s.rest
     pub sized : (j : ℕ) (s : Suspension) → slice_get ss j ≡ Some s → s.below ≤ count r.columns
     pub done : (i : ℕ) → is_among i ds ≡ true → i < length ss
 
   -- the suspended goals before this place that are not done wait
   abbrev pub WaitUpTo : Row → List Suspension → List ℕ → ℕ → Type 0
-  WaitUpTo r ss ds n = (j : ℕ) (s : Suspension) → slice_get ss j ≡ Some s → j < n → is_among j ds ≡ false → DoWait r (first_of cs root s.rest)
+  WaitUpTo r ss ds n = (j : ℕ) (s : Suspension) → slice_get ss j ≡ Some s → j < n → is_among j ds ≡ false
+      → DoWait r (first_of cs root s.rest)
 
   -- they waited in a state that is kept
   pub record DidWait (k : Kept) (w : Waits) : Type 0 where
     pub there : w.since < length k.states
     pub upto : w.upto ≤ length k.suspended
-    pub below : (j : ℕ) (s : Suspension) → slice_get k.suspended j ≡ Some s → j < w.upto → s.below ≤ count (present (take (suc w.since) k.states)).columns
+    pub below : (j : ℕ) (s : Suspension) → slice_get k.suspended j ≡ Some s → j < w.upto
+        → s.below ≤ count (present (take (suc w.since) k.states)).columns
     pub goals : WaitUpTo (present (take (suc w.since) k.states)) k.suspended k.done w.upto
 
   -- the selected goal, and what is done with it
@@ -148,7 +153,8 @@ left e = goals_in e.clauses.now (goal_of e) e.history.links.items e.front.rest
 
 -- the suspended goals before this place wait
 abbrev pub WaitBefore : Engine → ℕ → Type 0
-WaitBefore e n = WaitUpTo e.clauses.now (goal_of e) (row_of e) e.history.suspended.goals.items e.history.suspended.done.items n
+WaitBefore e n = WaitUpTo e.clauses.now (goal_of e) (row_of e) e.history.suspended.goals.items
+    e.history.suspended.done.items n
 
 -- all that are suspended wait
 abbrev pub AllWait : Engine → Type 0
@@ -174,7 +180,8 @@ IsGoalAt e l g = slice_get (body_of e.clauses.now (goal_of e) l.body) l.from ≡
 
 -- what is done with it
 abbrev pub Looks : Engine → Rest → Act → Type 0
-Looks e l a = (g : Goal ℕ) → IsGoalAt e l g → ActsAs e.clauses.now (row_of e) (put_goal (counted l.first) g) a × IsReady (count g.arguments) a
+Looks e l a = (g : Goal ℕ) → IsGoalAt e l g
+    → ActsAs e.clauses.now (row_of e) (put_goal (counted l.first) g) a × IsReady (count g.arguments) a
 
 -- what is done with the first goal that is left, or none is
 abbrev pub Sees : Engine → Option Act → Type 0
@@ -187,4 +194,5 @@ HasMoreLinks old new = (more : List Rest) × (new.history.links.items ≡ old.hi
 
 -- the link stands for these goals
 abbrev pub IsLinkOf : Engine → Engine → Rest → ℕ → Type 0
-IsLinkOf old new rest n = (below new.clauses.now (goal_of new) (reverse new.history.links.items) n ≡ goals_in old.clauses.now (goal_of old) old.history.links.items rest) × (n ≤ length new.history.links.items)
+IsLinkOf old new rest n = (below new.clauses.now (goal_of new) (reverse new.history.links.items) n
+    ≡ goals_in old.clauses.now (goal_of old) old.history.links.items rest) × (n ≤ length new.history.links.items)

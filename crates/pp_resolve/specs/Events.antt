@@ -40,7 +40,9 @@ IsSolving (Call n) = ⊥
 
 -- the link stands for the goals after the first that is left
 abbrev pub IsNext : Engine → ℕ → Type 0
-IsNext e n = (below e.clauses.now (goal_of e) (reverse e.history.links.items) n ≡ goals_in e.clauses.now (goal_of e) e.history.links.items (after_first e.front.rest)) × (n ≤ length e.history.links.items)
+IsNext e n = (below e.clauses.now (goal_of e) (reverse e.history.links.items) n
+    ≡ goals_in e.clauses.now (goal_of e) e.history.links.items (after_first e.front.rest))
+    × (n ≤ length e.history.links.items)
 
 -- the alternative at this place leads there, or it fails and the engine stands where it stood
 abbrev pub Took : Engine → ℕ → Bool → Engine → Type 0
@@ -52,7 +54,8 @@ selected_as at a = record { at = at; act = a }
 
 -- the goals before and behind the one at this place
 abbrev pub others : Engine → Option ℕ → List (Goal ℕ)
-others e at = before e.clauses.now (goal_of e) (kept_of e.history) at ++ after e.clauses.now (goal_of e) (kept_of e.history) e.front at
+others e at = before e.clauses.now (goal_of e) (kept_of e.history) at
+    ++ after e.clauses.now (goal_of e) (kept_of e.history) e.front at
 
 -- the configuration without the goal at this place, over a row
 abbrev pub without : Engine → Option ℕ → Row → Config
@@ -60,5 +63,9 @@ without e at r = config_in r (others e at) e.columns.columns e.front.depth
 
 -- what the act solves was solved for the goal at this place, and the goal is done; or it has no solution
 abbrev pub Solved : Engine → Option ℕ → Act → Bool → Engine → Type 0
-Solved old at a true new = ((l : Rest) (g : Goal ℕ) → BeginsAt old at l → IsGoalAt old l g → AreDecided (row_of old) (items_by g.shape (put_goal (counted l.first) g).arguments a) true (row_of new)) × ((place_of new).here ≡ without old at (row_of new))
-Solved old at a false new = ((l : Rest) (g : Goal ℕ) → BeginsAt old at l → IsGoalAt old l g → (q : Row) × AreDecided (row_of old) (items_by g.shape (put_goal (counted l.first) g).arguments a) false q) × (place_of new ≡ place_of old)
+Solved old at a true new = ((l : Rest) (g : Goal ℕ) → BeginsAt old at l → IsGoalAt old l g
+    → AreDecided (row_of old) (items_by g.shape (put_goal (counted l.first) g).arguments a) true (row_of new))
+    × ((place_of new).here ≡ without old at (row_of new))
+Solved old at a false new = ((l : Rest) (g : Goal ℕ) → BeginsAt old at l → IsGoalAt old l g
+    → (q : Row) × AreDecided (row_of old) (items_by g.shape (put_goal (counted l.first) g).arguments a) false q)
+    × (place_of new ≡ place_of old)

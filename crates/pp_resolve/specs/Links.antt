@@ -1,4 +1,5 @@
--- The goals that a branch still has to do: those that are suspended, and behind them what is left of bodies, each a link that names an earlier one.
+-- The goals that a branch still has to do: those that are suspended, and behind them what is left of bodies, each a
+-- link that names an earlier one.
 use Rattle.std.specs.Prelude.{ℕ, suc, ◌+◌, ◌-◌, ◌^◌, ◌<◌, ◌≤◌, cond, nat_eq, List, [], ◌∷◌, ◌++◌, length, map, take, drop, reverse, Option, Some, None}
 use Rattle.std.specs.List.{slice_get}
 use Rattle.pp_sld.specs.Goals.{Goal, put_goal}

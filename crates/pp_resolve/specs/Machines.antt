@@ -15,4 +15,5 @@ abbrev pub searching_of : Engine → Searching
 searching_of e = record { clauses = e.clauses.now; place = place_of e }
 
 abbrev pub searching_code : Coded Searching
-searching_code = code_by (List Clause × Place) (coded× (coded_list clause.the_row.coded) place_code) (λ s. (s.clauses, s.place)) (λ p. record { clauses = p.0; place = p.1 }) (λ _. refl)
+searching_code = code_by (List Clause × Place) (coded× (coded_list clause.the_row.coded) place_code)
+    (λ s. (s.clauses, s.place)) (λ p. record { clauses = p.0; place = p.1 }) (λ _. refl)

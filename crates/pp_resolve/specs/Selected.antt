@@ -21,7 +21,8 @@ AllGoalsWait e = DoWait (row_of e) (all_goals e)
 
 -- the goals before it wait
 abbrev pub StandsAfter : Engine → Goal ℕ → Type 0
-StandsAfter e g = (before : List (Goal ℕ)) × (after : List (Goal ℕ)) × (all_goals e ≡ before ++ g ∷ after) × DoWait (row_of e) before
+StandsAfter e g = (before : List (Goal ℕ)) × (after : List (Goal ℕ)) × (all_goals e ≡ before ++ g ∷ after)
+    × DoWait (row_of e) before
 
 pub record IsSelectedAt (e : Engine) (l : Rest) (a : Act) : Type 0 where
   pub rest : IsRest e.clauses.now (goal_of e) (length e.history.links.items) l
@@ -32,7 +33,8 @@ pub record IsSelectedAt (e : Engine) (l : Rest) (a : Act) : Type 0 where
 
 -- the top of the goal's first argument
 abbrev pub IsFirstOf : Engine → Rest → First → Type 0
-IsFirstOf e l first = (g : Goal ℕ) → IsGoalAt e l g → first ≡ first_of (placed (row_of e) (put_goal (counted l.first) g)).arguments
+IsFirstOf e l first = (g : Goal ℕ) → IsGoalAt e l g
+    → first ≡ first_of (placed (row_of e) (put_goal (counted l.first) g)).arguments
 
 abbrev pub IsSelected : Engine → Rest × Act → Type 0
 IsSelected e p = IsSelectedAt e p.0 p.1

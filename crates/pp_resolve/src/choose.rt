@@ -36,9 +36,12 @@ fn enter(
     requires lent { IsLent (present bindings.old) goal.now first }
     requires number { number < length clauses.now }
     requires formed { (c : Clause) → slice_get clauses.now number ≡ Some c → IsClause c }
-    requires width { (c : Clause) → slice_get clauses.now number ≡ Some c → length c.head ≡ count (forest goal.now.arguments.now) }
+    requires width { (c : Clause) → slice_get clauses.now number ≡ Some c
+        → length c.head ≡ count (forest goal.now.arguments.now) }
     ensures entered { IfOk result (λ b. (c : Clause) → slice_get clauses.now number ≡ Some c
-        → AreDecided (with_many (present bindings.old) c.vars) (pairs (count (present bindings.old).columns) (trees_of c.head) first (forest goal.now.arguments.now)) b (present bindings.new)) }
+        → AreDecided (with_many (present bindings.old) c.vars)
+        (pairs (count (present bindings.old).columns) (trees_of c.head) first (forest goal.now.arguments.now)) b
+        (present bindings.new)) }
     ensures kept { IsLonger bindings.old bindings.new }
     ensures stays { IfOk result (λ b. b ≡ false → bindings.new ≡ bindings.old) }
     ensures err { OnErr result (bindings.new ≡ bindings.old) }
@@ -185,7 +188,8 @@ impl<'a> Engine<'a> {
         requires choice { HasChoice (program self.old.clauses.now) (place_of self.old).here place }
         ensures good { IsGood self.new }
         ensures same { IsSameSearch self.old self.new }
-        ensures committed { IfOk result (λ b. Committed (program self.old.clauses.now) (place_of self.old) place b (place_of self.new)) }
+        ensures committed { IfOk result
+            (λ b. Committed (program self.old.clauses.now) (place_of self.old) place b (place_of self.new)) }
         ensures err { OnErr result (place_of self.new ≡ place_of self.old) }
         ensures steps { steps.new ≡ steps.old + 1 }
     {
@@ -203,7 +207,8 @@ impl<'a> Engine<'a> {
         requires choice { HasChoice (program self.old.clauses.now) (place_of self.old).here place }
         ensures good { IsGood self.new }
         ensures same { IsSameSearch self.old self.new }
-        ensures chose { IfOk result (λ b. Chose (program self.old.clauses.now) (place_of self.old) place b (place_of self.new)) }
+        ensures chose { IfOk result (λ b.
+            Chose (program self.old.clauses.now) (place_of self.old) place b (place_of self.new)) }
         ensures err { OnErr result (place_of self.new ≡ place_of self.old) }
         ensures steps { steps.new ≡ steps.old + 1 }
     {

@@ -42,7 +42,8 @@ impl<'a> Engine<'a> {
         ensures same { IsSameSearch self.old self.new }
         ensures none { result ≡ false → (place_of self.old).above ≡ [] }
         ensures good { result ≡ true → IsGood self.new }
-        ensures back { result ≡ true → (place_of self.old).above ≡ (place_of self.new).here ∷ (place_of self.new).above }
+        ensures back { result ≡ true → (place_of self.old).above
+            ≡ (place_of self.new).here ∷ (place_of self.new).above }
         ensures stays { result ≡ false → place_of self.new ≡ place_of self.old }
         ensures kept { result ≡ false → IsGood self.old → IsGood self.new }
     {

@@ -61,8 +61,10 @@ impl<'a> Machine<'a> {
         ensures clauses { self.new.clauses ≡ self.old.clauses }
         ensures stepped { IfOk result (λ e. Stepped (program self.old.clauses) self.old.place e self.new.place) }
         ensures err { OnErr result (self.new.place ≡ self.old.place) }
-        ensures steps { IfOk result (λ _. steps.new ≡ steps.old + step_cost (next (program self.old.clauses) self.old.place.here)) }
-        ensures at_most { OnErr result (steps.new ≤ steps.old + step_cost (next (program self.old.clauses) self.old.place.here)) }
+        ensures steps { IfOk result (λ _.
+            steps.new ≡ steps.old + step_cost (next (program self.old.clauses) self.old.place.here)) }
+        ensures at_most { OnErr result
+            (steps.new ≤ steps.old + step_cost (next (program self.old.clauses) self.old.place.here)) }
     {
         self.engine.step(steps)
     }
@@ -107,7 +109,8 @@ impl<'a> Machine<'a> {
     pub fn commit<L: Ledger>(&mut self, at: u64, steps: &mut Steps<L>) -> Result<bool, AllocError>
         requires choice { HasChoice (program self.old.clauses) self.old.place.here at }
         ensures clauses { self.new.clauses ≡ self.old.clauses }
-        ensures committed { IfOk result (λ goes. Committed (program self.old.clauses) self.old.place at goes self.new.place) }
+        ensures committed { IfOk result
+            (λ goes. Committed (program self.old.clauses) self.old.place at goes self.new.place) }
         ensures err { OnErr result (self.new.place ≡ self.old.place) }
         ensures steps { steps.new ≡ steps.old + 1 }
     {

@@ -33,7 +33,8 @@ impl<'a> Engine<'a> {
         requires some { rest.from ≡ rest.to → 0 < rest.next }
         ensures rest { IsRest self.now.clauses.now (goal_of self.now) (length self.now.history.links.items) result }
         ensures some { result.from < result.to }
-        ensures same { goals_in self.now.clauses.now (goal_of self.now) self.now.history.links.items result ≡ goals_in self.now.clauses.now (goal_of self.now) self.now.history.links.items rest }
+        ensures same { goals_in self.now.clauses.now (goal_of self.now) self.now.history.links.items result
+            ≡ goals_in self.now.clauses.now (goal_of self.now) self.now.history.links.items rest }
     {
         if rest.from == rest.to {
             self.history.links[rest.next as usize - 1]

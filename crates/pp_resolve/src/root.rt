@@ -40,7 +40,8 @@ pub(crate) fn goal_at<'a>(clauses: &'a Clauses, root: &'a Root, rest: Rest) -> G
     requires root { IsRoot clauses.now root.now }
     requires formed { IsFormed clauses.now rest.body }
     requires within { rest.from < length (body_of clauses.now (root_of root.now) rest.body) }
-    ensures { (g : Goal ℕ) → slice_get (body_of clauses.now (root_of root.now) rest.body) rest.from ≡ Some g → IsShown clauses.now g result }
+    ensures { (g : Goal ℕ) → slice_get (body_of clauses.now (root_of root.now) rest.body) rest.from ≡ Some g
+        → IsShown clauses.now g result }
 {
     match rest.body {
         None => GoalAt {

@@ -26,7 +26,8 @@ impl<'a> Engine<'a> {
         requires good { IsGood self.now }
         requires some { rest.from < rest.to }
         requires rest { IsRest self.now.clauses.now (goal_of self.now) (length self.now.history.links.items) rest }
-        requires over { (g : Goal ℕ) → IsGoalAt self.now rest g → AreOver (row_of self.now) (counted_all rest.first g.arguments) }
+        requires over { (g : Goal ℕ) → IsGoalAt self.now rest g
+            → AreOver (row_of self.now) (counted_all rest.first g.arguments) }
         ensures shown { (g : Goal ℕ) → IsGoalAt self.now rest g → IsShown self.now.clauses.now g result }
         ensures lent { IsLent (row_of self.now) result rest.first }
     {
@@ -38,7 +39,8 @@ impl<'a> Engine<'a> {
         requires good { IsGood self.now }
         requires some { rest.from < rest.to }
         requires rest { IsRest self.now.clauses.now (goal_of self.now) (length self.now.history.links.items) rest }
-        requires over { (g : Goal ℕ) → IsGoalAt self.now rest g → AreOver (row_of self.now) (counted_all rest.first g.arguments) }
+        requires over { (g : Goal ℕ) → IsGoalAt self.now rest g
+            → AreOver (row_of self.now) (counted_all rest.first g.arguments) }
         ensures { Looks self.now rest result }
     {
         act_on(&self.history.bindings, &self.goal(rest), rest.first)
@@ -99,7 +101,8 @@ impl<'a> Engine<'a> {
         requires some { self.now.front.rest.from < self.now.front.rest.to }
         ensures below { AreBelow self.now.clauses.now (goal_of self.now) result self.now.front.rest }
         ensures sized { result ≤ count (row_of self.now).columns }
-        ensures last { (j : ℕ) → (s : SuspensionValue) → slice_get self.now.history.suspended.goals.items j ≡ Some s → length self.now.history.suspended.goals.items ≡ suc j → s.below ≤ result }
+        ensures last { (j : ℕ) → (s : SuspensionValue) → slice_get self.now.history.suspended.goals.items j ≡ Some s
+            → length self.now.history.suspended.goals.items ≡ suc j → s.below ≤ result }
     {
         let own = self.own_bound();
         match self.history.suspended.goals.last() {

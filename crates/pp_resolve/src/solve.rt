@@ -27,7 +27,9 @@ fn solve(
 ) -> Result<bool, AllocError>
     requires lent { IsLent (present bindings.old) goal.now first }
     requires ready { IsReady (count (forest goal.now.arguments.now)) act }
-    ensures decided { IfOk result (λ b. AreDecided (present bindings.old) (items goal.now.kind (terms_of goal.now first) act) b (present bindings.new)) }
+    ensures decided { IfOk result (λ b.
+        AreDecided (present bindings.old) (items goal.now.kind (terms_of goal.now first) act) b
+        (present bindings.new)) }
     ensures kept { IsLonger bindings.old bindings.new }
     ensures stays { IfOk result (λ b. b ≡ false → bindings.new ≡ bindings.old) }
     ensures err { OnErr result (bindings.new ≡ bindings.old) }
@@ -52,7 +54,8 @@ impl<'a> Engine<'a> {
     pub(crate) fn solve_at(&mut self, at: Option<usize>, act: Act) -> Result<bool, AllocError>
         requires good { IsGood self.old }
         requires there { IsPlaceOf self.old at }
-        requires ready { (l : RestValue) → (g : Goal ℕ) → BeginsAt self.old at l → IsGoalAt self.old l g → IsReady (count g.arguments) act }
+        requires ready { (l : RestValue) → (g : Goal ℕ) → BeginsAt self.old at l → IsGoalAt self.old l g
+            → IsReady (count g.arguments) act }
         ensures good { IsGood self.new }
         ensures same { IsSameSearch self.old self.new }
         ensures above { (place_of self.new).above ≡ (place_of self.old).above }

@@ -81,7 +81,8 @@ impl<'a> Engine<'a> {
         requires solving { IsSolving act }
         ensures good { IsGood self.new }
         ensures same { IsSameSearch self.old self.new }
-        ensures stepped { IfOk result (λ e. Stepped (program self.old.clauses.now) (place_of self.old) e (place_of self.new)) }
+        ensures stepped { IfOk result (λ e.
+            Stepped (program self.old.clauses.now) (place_of self.old) e (place_of self.new)) }
         ensures err { OnErr result (place_of self.new ≡ place_of self.old) }
         ensures cost { step_cost (follows self.old) ≡ 1 }
     {
@@ -102,7 +103,8 @@ impl<'a> Engine<'a> {
         requires met { IsMet self.old selected }
         ensures good { IsGood self.new }
         ensures same { IsSameSearch self.old self.new }
-        ensures stepped { IfOk result (λ e. Stepped (program self.old.clauses.now) (place_of self.old) e (place_of self.new)) }
+        ensures stepped { IfOk result (λ e.
+            Stepped (program self.old.clauses.now) (place_of self.old) e (place_of self.new)) }
         ensures err { OnErr result (place_of self.new ≡ place_of self.old) }
         ensures steps { steps.new ≡ steps.old + step_cost (follows self.old) }
     {
@@ -125,7 +127,8 @@ impl<'a> Engine<'a> {
         requires good { IsGood self.old }
         ensures good { IsGood self.new }
         ensures same { IsSameSearch self.old self.new }
-        ensures stepped { IfOk result (λ e. Stepped (program self.old.clauses.now) (place_of self.old) e (place_of self.new)) }
+        ensures stepped { IfOk result (λ e.
+            Stepped (program self.old.clauses.now) (place_of self.old) e (place_of self.new)) }
         ensures err { OnErr result (place_of self.new ≡ place_of self.old) }
         ensures steps { IfOk result (λ _. steps.new ≡ steps.old + step_cost (follows self.old)) }
         ensures at_most { OnErr result (steps.new ≤ steps.old + step_cost (follows self.old)) }

@@ -10,12 +10,14 @@ use Rattle.pp_propagation.specs.Watchers.{Watcher}
 use Rattle.pp_propagation.specs.Replies.{IsReplyToText}
 use Rattle.pp_io.specs.Ends.{Took}
 
--- where `reply` says which status and bytes are called for: a write fault took a prefix of such bytes, a read fault and want of memory
+-- where `reply` says which status and bytes are called for: a write fault took a prefix of such bytes, a read fault and
+-- want of memory
 -- took nothing, and any other status is called for with the bytes that were taken
 abbrev pub Replied : (Status → Text → Type 0) → Option Text → Option Text → Status → Type 0
 Replied reply before after ReadFault = after ≡ before
 Replied reply before after Memory = after ≡ before
-Replied reply before after WriteFault = (s : Status) × (b : Text) × reply s b × (done : Text) × (rest : Text) × (b ≡ done ++ rest) × Took before after done
+Replied reply before after WriteFault = (s : Status) × (b : Text) × reply s b × (done : Text) × (rest : Text)
+    × (b ≡ done ++ rest) × Took before after done
 Replied reply before after Yes = (b : Text) × reply Yes b × Took before after b
 Replied reply before after No = (b : Text) × reply No b × Took before after b
 Replied reply before after Usage = (b : Text) × reply Usage b × Took before after b
@@ -43,7 +45,8 @@ HasRead kind s = HasReadText s
 -- bytes were written whole with this status, or a write failed behind a prefix of them
 abbrev pub Wrote : Status → Text → Option Text → Option Text → Status → Type 0
 Wrote s b before after result =
-    ((result ≡ s) × Took before after b) ⊎ ((result ≡ WriteFault) × (done : Text) × (rest : Text) × (b ≡ done ++ rest) × Took before after done)
+    ((result ≡ s) × Took before after b)
+    ⊎ ((result ≡ WriteFault) × (done : Text) × (rest : Text) × (b ≡ done ++ rest) × Took before after done)
 
 -- the endings of a call whose words aren't valid
 abbrev pub IsWordsEnd : Status → Type 0
@@ -69,4 +72,5 @@ pub record IsRunEnd (s : Status) : Type 0 where
 
 -- the reply to a text that is not run, whatever the settings and the watchers are
 abbrev pub IsRefusal : Text → Status → Text → Type 0
-IsRefusal text s b = (settings : Settings) (trace : Bool) (ws : List Watcher) → IsReplyToText settings trace text ws ws s b
+IsRefusal text s b = (settings : Settings) (trace : Bool) (ws : List Watcher)
+    → IsReplyToText settings trace text ws ws s b

@@ -39,7 +39,10 @@ IsRanOf p settings old new r = IsRan (program p.clauses) (query_by p.query) sett
 
 -- the run of a query that begins nowhere
 abbrev pub no_ran : Ran
-no_ran = record { fixed = record { end = No; turns = 0; unfinished = [] }; row = record { columns = none; domains = [] } }
+no_ran = record {
+  fixed = record { end = No; turns = 0; unfinished = [] };
+  row = record { columns = none; domains = [] };
+}
 
 -- whole turns of the query's run were made, and the watchers have noted their changes
 pub record NotedInTurns (clauses : Program) (q : Query) (settings : Settings) (old new : List Watcher) : Type 0 where

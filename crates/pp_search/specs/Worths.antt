@@ -21,4 +21,5 @@ module _ (clauses : Program) (shape : Shape) (face : Row) (depth : ℕ) (m : Mod
 
   -- whatever was known, joined with it the task is worth what was found and what is left
   abbrev pub IsFit : Option (List Level) → Finding → List (Option (List Level)) → Type 0
-  IsFit task found rest = (under : Finding) → ∥ FitsIn m (call face) under ∥₁ → joined (worth_of task) under ≡ joined (with_worths worth_of joined found rest) under
+  IsFit task found rest = (under : Finding) → ∥ FitsIn m (call face) under ∥₁
+      → joined (worth_of task) under ≡ joined (with_worths worth_of joined found rest) under

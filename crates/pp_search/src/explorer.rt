@@ -21,7 +21,8 @@ impl<'a> Explorer for Search<'a> {
 
     type Walker = Walker<Machine<'a>>;
 
-    ghost belongs = { λ s w. IsOver (program s.clauses.now) (root (shape_of s.shape) s.face s.depth) (program w.machine.clauses) w.machine.place w.path.items };
+    ghost belongs = { λ s w. IsOver (program s.clauses.now) (root (shape_of s.shape) s.face s.depth)
+        (program w.machine.clauses) w.machine.place w.path.items };
 
     ghost is_later = { λ w v. is_later (work_by w) (work_by v) };
 

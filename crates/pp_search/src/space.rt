@@ -13,7 +13,8 @@ impl<'a> Space for Search<'a> {
 
     type Task = Work;
 
-    ghost worth = { λ s w. worth_of (program s.clauses.now) (shape_of s.shape) s.face s.depth (mode_of s.findings.mode) w };
+    ghost worth = { λ s w. worth_of (program s.clauses.now) (shape_of s.shape) s.face s.depth (mode_of s.findings.mode)
+        w };
 
     ghost are_same = { λ w v. are_same w v };
 
@@ -25,9 +26,11 @@ impl<'a> Space for Search<'a> {
         a.same(b)
     }
 
-    ghost worth_fits = { λ s w. worth_fits (program s.clauses.now) (shape_of s.shape) s.face s.depth (mode_of s.findings.mode) s.findings.call s.called w };
+    ghost worth_fits = { λ s w. worth_fits (program s.clauses.now) (shape_of s.shape) s.face s.depth
+        (mode_of s.findings.mode) s.findings.call s.called w };
 
     ghost same_as_itself = { λ w. same_itself w };
 
-    ghost same_worth = { λ s w v e. same_worths (program s.clauses.now) (shape_of s.shape) s.face s.depth (mode_of s.findings.mode) w v e };
+    ghost same_worth = { λ s w v e.
+        same_worths (program s.clauses.now) (shape_of s.shape) s.face s.depth (mode_of s.findings.mode) w v e };
 }

@@ -42,7 +42,9 @@ impl<'a> Search<'a> {
         ensures value { IfOk result (λ found. found.value ≡ none_yet (mode_of self.now.findings.mode)) }
         ensures stopped { has_seen seat.old ≡ true → IfOk result (λ found. found.rest ≡ task.now ∷ []) }
         ensures done { IfOk result (λ found. found.up ≡ No → found.rest ≡ []) }
-        ensures worth { IfOk result (λ found. IsFit (program self.now.clauses.now) (shape_of self.now.shape) self.now.face self.now.depth (mode_of self.now.findings.mode) task.now found.value found.rest) }
+        ensures worth { IfOk result (λ found.
+            IsFit (program self.now.clauses.now) (shape_of self.now.shape) self.now.face self.now.depth
+            (mode_of self.now.findings.mode) task.now found.value found.rest) }
     {
         let up = stop.is_up(seat);
         let mut rest = Vec::new(self.alloc);
@@ -70,19 +72,30 @@ impl<'a> Search<'a> {
         requires parts { blank.parts ≡ L.parts }
         requires some { 0 < blank.parts }
         requires open { task.now ≢ None }
-        requires walker { ∥ IsOver (program self.now.clauses.now) (root (shape_of self.now.shape) self.now.face self.now.depth) (program walker.old.machine.clauses) walker.old.machine.place walker.old.path.items ∥₁ }
+        requires walker { ∥ IsOver (program self.now.clauses.now)
+            (root (shape_of self.now.shape) self.now.face self.now.depth) (program walker.old.machine.clauses)
+            walker.old.machine.place walker.old.path.items ∥₁ }
         requires budget { 1 ≤ budget }
         requires seat { IsSeatOf stop.now seat.old }
-        ensures walker { ∥ IsOver (program self.now.clauses.now) (root (shape_of self.now.shape) self.now.face self.now.depth) (program walker.new.machine.clauses) walker.new.machine.place walker.new.path.items ∥₁ }
+        ensures walker { ∥ IsOver (program self.now.clauses.now)
+            (root (shape_of self.now.shape) self.now.face self.now.depth) (program walker.new.machine.clauses)
+            walker.new.machine.place walker.new.path.items ∥₁ }
         ensures seat { IsSeatOf stop.now seat.new }
         ensures seen { StillSeen seat.old seat.new }
         ensures late { has_seen seat.old ≡ false → late seat.new ≡ late seat.old }
-        ensures fits { IfOk result (λ found. ∥ FitsIn (mode_of self.now.findings.mode) self.now.findings.call found.value ∥₁) }
-        ensures worth { IfOk result (λ found. IsFit (program self.now.clauses.now) (shape_of self.now.shape) self.now.face self.now.depth (mode_of self.now.findings.mode) task.now found.value found.rest) }
+        ensures fits { IfOk result (λ found.
+            ∥ FitsIn (mode_of self.now.findings.mode) self.now.findings.call found.value ∥₁) }
+        ensures worth { IfOk result (λ found.
+            IsFit (program self.now.clauses.now) (shape_of self.now.shape) self.now.face self.now.depth
+            (mode_of self.now.findings.mode) task.now found.value found.rest) }
         ensures up { IfOk result (λ found. found.up ≡ up_of (saw_settled seat.new) (saw_dry seat.new)) }
-        ensures stopped { has_seen seat.old ≡ true → IfOk result (λ found. (loads seat.new ≡ loads seat.old + 1) × (found.value ≡ none_yet (mode_of self.now.findings.mode)) × (found.rest ≡ task.now ∷ [])) }
-        ensures budget { IfOk result (λ found. found.rest ≢ [] → found.up ≡ No → loads seat.old + budget ≤ loads seat.new) }
-        ensures later { IfOk result (λ found. found.up ≡ No → All (λ w. IsLater (work_by w) (work_by task.now)) found.rest) }
+        ensures stopped { has_seen seat.old ≡ true
+            → IfOk result (λ found. (loads seat.new ≡ loads seat.old + 1)
+            × (found.value ≡ none_yet (mode_of self.now.findings.mode)) × (found.rest ≡ task.now ∷ [])) }
+        ensures budget { IfOk result (λ found. found.rest ≢ [] → found.up ≡ No
+            → loads seat.old + budget ≤ loads seat.new) }
+        ensures later { IfOk result (λ found. found.up ≡ No
+            → All (λ w. IsLater (work_by w) (work_by task.now)) found.rest) }
     {
         let mut steps: Steps<L> = Steps::new(blank);
         let call = self.findings.call.copy()?;

@@ -28,6 +28,7 @@ pub record IsIndex (q : Query) (asked : List Annotated) (sets : List (List ℕ))
 -- ascending numbers of goals, among which is each goal that names one of the variables
 pub record AreCandidates (q : Query) (variables numbers : List ℕ) : Type 0 where
   pub ascending : IsAscending numbers
-  pub all : (k v : ℕ) (a : Asked) → IsGoalAt q k a → IsIn v (variables_all a.goal.arguments) → IsIn v variables → IsIn k numbers
+  pub all : (k v : ℕ) (a : Asked) → IsGoalAt q k a → IsIn v (variables_all a.goal.arguments) → IsIn v variables
+      → IsIn k numbers
   pub goals : (k : ℕ) → IsIn k numbers → (1 ≤ k) × (k ≤ length (goals_in q))
   pub below : (k v : ℕ) (a : Asked) → IsGoalAt q k a → IsIn v (variables_all a.goal.arguments) → v < q.vars

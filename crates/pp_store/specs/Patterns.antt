@@ -25,7 +25,8 @@ pub record IsSound (p : Pattern) : Type 0 where
   pub below : (v : ℕ) → IsIn v (variables_all (trees_of p.columns.items)) → v < length p.domains.items
   pub wide : AreWide (sets_of p.domains.items)
   pub count : length p.domains.items ≤ length p.places
-  pub placed : (k v : ℕ) → k < length p.columns.items → IsIn v (variables (column_at p.columns.items k)) → Stands p.places v k
+  pub placed : (k v : ℕ) → k < length p.columns.items → IsIn v (variables (column_at p.columns.items k))
+      → Stands p.places v k
   pub within : (v k : ℕ) → Stands p.places v k → k < length p.columns.items
 
 -- the variables in the face of a goal of these arguments
@@ -39,8 +40,11 @@ under_numbers numbers given = put_all (λ w. variable (get_or numbers w 0)) give
 -- what applying this row to a goal of these arguments changes
 pub record IsChange (p : Pattern) (arguments : List (Tree ℕ)) (given : Row) (c : Change) : Type 0 where
   pub touched : AreGathered p.places (names_at p.columns.items arguments) c.touched.keys
-  pub columns : c.columns.items ≡ map (λ k. put (replacement (names_at p.columns.items arguments) (under_numbers c.numbers.items given)) (column_at p.columns.items k)) c.touched.keys
-  pub numbers : AreNumbers (length p.domains.items) (length given.domains) (names_at p.columns.items arguments) c.numbers.items
+  pub columns : c.columns.items ≡ map
+      (λ k. put (replacement (names_at p.columns.items arguments) (under_numbers c.numbers.items given))
+      (column_at p.columns.items k)) c.touched.keys
+  pub numbers : AreNumbers (length p.domains.items) (length given.domains) (names_at p.columns.items arguments)
+      c.numbers.items
   pub domains : sets_of c.domains.items ≡ given.domains
 
 -- what can be made: places that there are, each once, and variables that are known or get a number
@@ -50,7 +54,8 @@ pub record IsMeant (p : Pattern) (c : Change) : Type 0 where
   pub domains : length c.domains.items ≡ length c.numbers.items
   pub distinct : Distinct nat_eq c.touched.keys
   pub apart : Distinct nat_eq c.numbers.items
-  pub known : (v : ℕ) → IsIn v (variables_all (trees_of c.columns.items)) → (v < length p.domains.items) ⊎ IsIn v c.numbers.items
+  pub known : (v : ℕ) → IsIn v (variables_all (trees_of c.columns.items))
+      → (v < length p.domains.items) ⊎ IsIn v c.numbers.items
 
 -- domains of which the later ones are `any`
 pub record AreLonger (old new : List (Option (List (ℤ × ℤ)))) : Type 0 where
@@ -68,11 +73,15 @@ pub record IsAsBefore (old new : Pattern) : Type 0 where
 -- the change was made
 pub record IsMade (old : Pattern) (c : Change) (new : Pattern) : Type 0 where
   pub count : length new.columns.items ≡ length old.columns.items
-  pub columns : (k : ℕ) → k < length old.columns.items → column_at new.columns.items k ≡ written c.touched.keys (column_at c.columns.items) (column_at old.columns.items) k
-  pub domains : (v : ℕ) → domain_at (sets_of new.domains.items) v ≡ written c.numbers.items (domain_at (sets_of c.domains.items)) (domain_at (sets_of old.domains.items)) v
+  pub columns : (k : ℕ) → k < length old.columns.items
+      → column_at new.columns.items k
+      ≡ written c.touched.keys (column_at c.columns.items) (column_at old.columns.items) k
+  pub domains : (v : ℕ) → domain_at (sets_of new.domains.items) v
+      ≡ written c.numbers.items (domain_at (sets_of c.domains.items)) (domain_at (sets_of old.domains.items)) v
   pub longer : length old.domains.items ≤ length new.domains.items
   pub room : (v : ℕ) → IsIn v c.numbers.items → v < length new.domains.items
   pub known : length new.domains.items ≤ length new.places
   pub stays : (v k : ℕ) → Stands old.places v k → Stands new.places v k
-  pub added : (i v : ℕ) → i < length c.touched.keys → IsIn v (variables (column_at c.columns.items i)) → Stands new.places v (get_or c.touched.keys i 0)
+  pub added : (i v : ℕ) → i < length c.touched.keys → IsIn v (variables (column_at c.columns.items i))
+      → Stands new.places v (get_or c.touched.keys i 0)
   pub only : (v k : ℕ) → Stands new.places v k → k < length old.columns.items

@@ -31,7 +31,10 @@ abbrev pub AtGoal : Query → ℕ → (Goal ℕ → Type 0) → Type 0
 AtGoal q k P = (a : Asked) → IsGoalAt q k a → P a.goal
 
 abbrev pub asked_by : Annotated → Asked
-asked_by a = record { goal = record { shape = shape_of a.shape; arguments = trees_of a.arguments.now }; mode = mode_of a.mode }
+asked_by a = record {
+  goal = record { shape = shape_of a.shape; arguments = trees_of a.arguments.now };
+  mode = mode_of a.mode;
+}
 
 -- as many terms over the query's variables as what it calls has arguments
 abbrev pub AreArgumentsOf : Query → Annotated → Type 0

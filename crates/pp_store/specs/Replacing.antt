@@ -1,4 +1,5 @@
--- Goals as the code has them, lists of terms that are the arguments, and what stands for the variables that are replaced.
+-- Goals as the code has them, lists of terms that are the arguments, and what stands for the variables that are
+-- replaced.
 use Rattle.std.specs.Prelude.{◌≡◌, ℕ, cond, nat_eq, List}
 use Rattle.pp_algebra.specs.Terms.{Tree, variable, Trees}
 use Rattle.pp_algebra.specs.Canon.{has, place}

@@ -28,7 +28,9 @@ pub(crate) fn top(term: &Term) -> Cell
 /// Puts a term into a domain, and answers false where nothing does.
 fn narrow_term(bindings: &mut Bindings, term: &Term, domain: &Domain) -> Result<bool, AllocError>
     requires over { IsOver (present bindings.old) term.now }
-    ensures solved { IfOk result (λ b. IsSolvedBy (present bindings.old) (membership (in_place (present bindings.old) term.now) (set_of domain.now)) b (present bindings.new)) }
+    ensures solved { IfOk result (λ b.
+        IsSolvedBy (present bindings.old) (membership (in_place (present bindings.old) term.now) (set_of domain.now)) b
+        (present bindings.new)) }
 {
     match top(term) {
         Cell::Var(variable) => bindings.narrow(variable, domain),
@@ -48,7 +50,9 @@ fn narrow_to(
     domain: &Option<Domain>,
 ) -> Result<bool, AllocError>
     requires over { IsOver (present bindings.old) term.now }
-    ensures solved { IfOk result (λ b. IsSolvedBy (present bindings.old) (membership (in_place (present bindings.old) term.now) (members_by domain.now)) b (present bindings.new)) }
+    ensures solved { IfOk result (λ b.
+        IsSolvedBy (present bindings.old)
+        (membership (in_place (present bindings.old) term.now) (members_by domain.now)) b (present bindings.new)) }
 {
     match domain {
         Some(domain) => narrow_term(bindings, term, domain),
@@ -59,7 +63,8 @@ fn narrow_to(
 /// Solves an item that is an equation or a domain item, and answers false where nothing does.
 fn solve_item(bindings: &mut Bindings, item: &Item) -> Result<bool, AllocError>
     requires item { IsItem (count (present bindings.old).columns) item.now }
-    ensures decided { IfOk result (λ b. AreDecided (present bindings.old) (items_of (item_of item.now ∷ [])) b (present bindings.new)) }
+    ensures decided { IfOk result (λ b.
+        AreDecided (present bindings.old) (items_of (item_of item.now ∷ [])) b (present bindings.new)) }
 {
     match item {
         Item::Equate(left, right) => bindings.unify(left, right),
@@ -71,7 +76,8 @@ fn solve_item(bindings: &mut Bindings, item: &Item) -> Result<bool, AllocError>
 /// The same of several items, one after another.
 pub(crate) fn solve_items(bindings: &mut Bindings, items: &[Item]) -> Result<bool, AllocError>
     requires items { All (IsItem (count (present bindings.old).columns)) items.now }
-    ensures decided { IfOk result (λ b. AreDecided (present bindings.old) (items_of (map item_of items.now)) b (present bindings.new)) }
+    ensures decided { IfOk result (λ b.
+        AreDecided (present bindings.old) (items_of (map item_of items.now)) b (present bindings.new)) }
 {
     for item in items {
         if !solve_item(bindings, item)? {

@@ -39,7 +39,8 @@ pub(crate) fn changed(
     requires count { length pattern.now.columns.items ≡ goals.now.vars }
     requires goals { All (IsGoalIn goals.now) numbers.now }
     requires many { length before.now ≡ length numbers.now }
-    ensures { IfOk result (λ changed. (old : RowValue) → before.now ≡ map (face_at (goals_in goals.now) old) numbers.now → changed.items ≡ filter (differs (goals_in goals.now) old (row_in pattern.now)) numbers.now) }
+    ensures { IfOk result (λ changed. (old : RowValue) → before.now ≡ map (face_at (goals_in goals.now) old) numbers.now
+        → changed.items ≡ filter (differs (goals_in goals.now) old (row_in pattern.now)) numbers.now) }
 {
     let mut changed = Vec::new(pattern.alloc);
     for (i, number) in numbers.iter().enumerate() {

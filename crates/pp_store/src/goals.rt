@@ -52,7 +52,8 @@ impl<'q> Model for GoalIndex<'q> {
 fn name_all(naming: &mut Occurrences, arguments: &[Term], number: u32) -> Result<(), AllocError>
     requires below { AreBelow (length naming.old) arguments.now }
     ensures more { HasMore (number ∷ []) naming.old naming.new }
-    ensures named { OnOk result ((v : ℕ) → IsIn v (variables_all (trees_of arguments.now)) → Stands naming.new v number) }
+    ensures named { OnOk result ((v : ℕ) → IsIn v (variables_all (trees_of arguments.now))
+        → Stands naming.new v number) }
 {
     for argument in arguments {
         naming.add(argument, number)?;

@@ -27,7 +27,8 @@ fn fresh(alloc: Global, first: u32, count: u32) -> Result<Vec<u32>, AllocError>
 fn keep_name(numbers: &mut Vec<u32>, first: u32, name: u32, column: &Term)
     requires within { (v : ℕ) → column.now ≡ variable v → v < length numbers.old.items }
     requires old { name < first }
-    ensures kept { (count : ℕ) (taken : List ℕ) → AreNumbers first count taken numbers.old.items → has nat_eq taken name ≡ false → AreNumbers first count (taken ++ name ∷ []) numbers.new.items }
+    ensures kept { (count : ℕ) (taken : List ℕ) → AreNumbers first count taken numbers.old.items
+        → has nat_eq taken name ≡ false → AreNumbers first count (taken ++ name ∷ []) numbers.new.items }
 {
     if let Cell::Var(variable) = top(column) {
         if numbers[variable as usize] >= first {

@@ -45,7 +45,8 @@ fn add_all(places: &mut Occurrences, numbers: &[u32], terms: &[Term]) -> Result<
     requires many { length terms.now ≤ length numbers.now }
     requires within { (v : ℕ) → IsIn v (variables_all (trees_of terms.now)) → v < length places.old }
     ensures more { HasMore numbers.now places.old places.new }
-    ensures added { OnOk result ((i v : ℕ) → i < length terms.now → IsIn v (variables (column_at terms.now i)) → Stands places.new v (get_or numbers.now i 0)) }
+    ensures added { OnOk result ((i v : ℕ) → i < length terms.now → IsIn v (variables (column_at terms.now i))
+        → Stands places.new v (get_or numbers.now i 0)) }
 {
     for (i, term) in terms.iter().enumerate() {
         places.add(term, numbers[i])?;
@@ -77,7 +78,8 @@ fn variable_count(domains: &[Option<Domain>]) -> Result<u32, AllocError>
 fn places_of(alloc: Global, columns: &[Term], count: usize) -> Result<Occurrences, AllocError>
     requires below { (v : ℕ) → IsIn v (variables_all (trees_of columns.now)) → v < count }
     ensures count { IfOk result (λ places. count ≤ length places) }
-    ensures placed { IfOk result (λ places. (k v : ℕ) → k < length columns.now → IsIn v (variables (column_at columns.now k)) → Stands places v k) }
+    ensures placed { IfOk result (λ places. (k v : ℕ) → k < length columns.now
+        → IsIn v (variables (column_at columns.now k)) → Stands places v k) }
     ensures within { IfOk result (λ places. (v k : ℕ) → Stands places v k → k < length columns.now) }
 {
     let mut places = Occurrences::new(alloc);
@@ -129,7 +131,8 @@ impl Pattern {
     pub fn change(&self, arguments: &[Term], given: &Row) -> Result<Change, AllocError>
         requires sound { IsSound self.now }
         requires below { AreBelow (length self.now.columns.items) arguments.now }
-        requires wide { OfGoal arguments.now (λ g. column_count given.now.columns ≡ length (face_of (row_in self.now) g).domains) }
+        requires wide { OfGoal arguments.now
+            (λ g. column_count given.now.columns ≡ length (face_of (row_in self.now) g).domains) }
         ensures change { IfOk result (IsChange self.now arguments.now given.now) }
         ensures meant { IfOk result (IsMeant self.now) }
         ensures given { OnOk result (IsRow given.now) }

@@ -22,7 +22,8 @@ pub(crate) struct Replacement {
 fn push_variable(out: &mut Vec<Cell>, variable: u32, by: &Replacement) -> Result<(), AllocError>
     requires many { length by.now.names.keys ≤ length by.now.terms.items }
     requires old { All IsLegalCell out.old.items }
-    ensures cells { OnOk result (out.new.items ≡ out.old.items ++ cells_of (replacement by.now.names.keys (trees_of by.now.terms.items) variable)) }
+    ensures cells { OnOk result (out.new.items
+        ≡ out.old.items ++ cells_of (replacement by.now.names.keys (trees_of by.now.terms.items) variable)) }
     ensures legal { OnOk result (All IsLegalCell out.new.items) }
 {
     match by.names.get_index_of(&variable) {
@@ -37,7 +38,8 @@ fn push_renewed(out: &mut Vec<Cell>, cell: Cell, by: &Replacement) -> Result<(),
     requires many { length by.now.names.keys ≤ length by.now.terms.items }
     requires cell { IsLegalCell cell }
     requires old { All IsLegalCell out.old.items }
-    ensures cells { OnOk result (out.new.items ≡ out.old.items ++ put_cell (replacement by.now.names.keys (trees_of by.now.terms.items)) cell) }
+    ensures cells { OnOk result (out.new.items
+        ≡ out.old.items ++ put_cell (replacement by.now.names.keys (trees_of by.now.terms.items)) cell) }
     ensures legal { OnOk result (All IsLegalCell out.new.items) }
 {
     match cell {
@@ -51,7 +53,8 @@ fn push_renewed(out: &mut Vec<Cell>, cell: Cell, by: &Replacement) -> Result<(),
 fn renewed_cells(alloc: Global, cells: &[Cell], by: &Replacement) -> Result<Vec<Cell>, AllocError>
     requires many { length by.now.names.keys ≤ length by.now.terms.items }
     requires legal { All IsLegalCell cells.now }
-    ensures cells { IfOk result (λ out. out.items ≡ flat_map (put_cell (replacement by.now.names.keys (trees_of by.now.terms.items))) cells.now) }
+    ensures cells { IfOk result (λ out.
+        out.items ≡ flat_map (put_cell (replacement by.now.names.keys (trees_of by.now.terms.items))) cells.now) }
     ensures legal { IfOk result (λ out. All IsLegalCell out.items) }
 {
     let mut out = Vec::with_capacity(alloc, cells.len())?;
@@ -82,7 +85,9 @@ pub(crate) fn renewed_at(
 ) -> Result<Vec<Term>, AllocError>
     requires many { length by.now.names.keys ≤ length by.now.terms.items }
     requires places { All (λ k. k < length columns.now) places.now }
-    ensures { IfOk result (λ ts. ts.items ≡ map (λ k. put (replacement by.now.names.keys (trees_of by.now.terms.items)) (get_or columns.now k (int (pos 0)))) places.now) }
+    ensures { IfOk result (λ ts. ts.items
+        ≡ map (λ k. put (replacement by.now.names.keys (trees_of by.now.terms.items))
+        (get_or columns.now k (int (pos 0)))) places.now) }
 {
     let mut terms = Vec::with_capacity(alloc, places.len())?;
     for place in places {

@@ -104,7 +104,8 @@ pub(crate) fn face(
 ) -> Result<Row, AllocError>
     requires below { AreBelow (length columns.now) arguments.now }
     requires wide { AreWide (sets_of domains.now) }
-    ensures { IfOk result (λ r. OfGoal arguments.now (λ g. r ≡ face (canon nat_eq (pattern_by columns.now domains.now)) g)) }
+    ensures { IfOk result (λ r. OfGoal arguments.now
+        (λ g. r ≡ face (canon nat_eq (pattern_by columns.now domains.now)) g)) }
 {
     let terms = arguments_under(alloc, columns, arguments)?;
     Row::canon(alloc, terms, domains)
@@ -148,7 +149,9 @@ pub(crate) fn face_names(
     arguments: &[Term],
 ) -> Result<IndexSet<u32>, AllocError>
     requires { AreBelow (length columns.now) arguments.now }
-    ensures { IfOk result (λ names. names.keys ≡ firsts nat_eq [] (variables_all (put_all (column (trees_of columns.now)) (trees_of arguments.now)))) }
+    ensures { IfOk result (λ names.
+        names.keys ≡ firsts nat_eq [] (variables_all
+        (put_all (column (trees_of columns.now)) (trees_of arguments.now)))) }
 {
     let terms = arguments_under(alloc, columns, arguments)?;
     variables_of(alloc, &terms)

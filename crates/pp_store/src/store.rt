@@ -41,7 +41,8 @@ impl Store {
     /// they stand. `None` exactly where they have no solution.
     pub fn begin(alloc: Global, query: &Query) -> Result<Option<Store>, AllocError>
         requires query { IsQuery query.now }
-        ensures begins { IfOk result (λ o. MatchOption o (BeginsNowhere (query_by query.now)) (λ s. Begins (query_by query.now) s.row)) }
+        ensures begins { IfOk result (λ o.
+            MatchOption o (BeginsNowhere (query_by query.now)) (λ s. Begins (query_by query.now) s.row)) }
         ensures of_query { IfOk result (λ o. IfSome o (IsStoreOf query.now)) }
     {
         let mut bindings = Bindings::new(alloc);
@@ -93,11 +94,14 @@ impl Store {
     ) -> Result<Numbers, AllocError>
         requires of_query { IsStoreOf goals.now self.old }
         requires goal { IsGoalIn goals.now goal }
-        requires given { AtGoal goals.now goal (λ g. count given.now.columns ≡ length (face_of self.old.row g).domains) }
-        ensures store { IfOk result (λ _. AtGoal goals.now goal (λ g. self.new.row ≡ apply_to self.old.row g given.now)) }
+        requires given { AtGoal goals.now goal
+            (λ g. count given.now.columns ≡ length (face_of self.old.row g).domains) }
+        ensures store { IfOk result (λ _.
+            AtGoal goals.now goal (λ g. self.new.row ≡ apply_to self.old.row g given.now)) }
         ensures changed { IfOk result (λ ks. ks ≡ woken self.old.row self.new.row [] 1 (goals_in goals.now)) }
         ensures of_query { IsStoreOf goals.now self.new }
-        ensures err { OnErr result ((self.new.row ≡ self.old.row) ⊎ AtGoal goals.now goal (λ g. self.new.row ≡ apply_to self.old.row g given.now)) }
+        ensures err { OnErr result ((self.new.row ≡ self.old.row)
+            ⊎ AtGoal goals.now goal (λ g. self.new.row ≡ apply_to self.old.row g given.now)) }
     {
         let change = self.pattern.change(goals.at(goal).arguments, given)?;
         let candidates = goals.naming(change.touched.as_slice())?;

@@ -16,7 +16,10 @@ pub(crate) fn write_terms(columns: &mut Vec<Term>, places: &[u32], terms: Vec<Te
     requires many { length terms.items ≡ length places.now }
     requires distinct { Distinct nat_eq places.now }
     ensures count { length columns.new.items ≡ length columns.old.items }
-    ensures written { (k : ℕ) → k < length columns.old.items → get_or columns.new.items k (int (pos 0)) ≡ written places.now (λ i. get_or terms.items i (int (pos 0))) (λ i. get_or columns.old.items i (int (pos 0))) k }
+    ensures written { (k : ℕ) → k < length columns.old.items
+        → get_or columns.new.items k (int (pos 0))
+        ≡ written places.now (λ i. get_or terms.items i (int (pos 0))) (λ i. get_or columns.old.items i (int (pos 0)))
+        k }
 {
     let mut terms = terms;
     for (i, place) in places.iter().enumerate() {
@@ -34,7 +37,8 @@ pub(crate) fn write_domains(
     requires many { length more.items ≡ length places.now }
     requires distinct { Distinct nat_eq places.now }
     ensures count { length domains.new.items ≡ length domains.old.items }
-    ensures written { (v : ℕ) → domain_at (sets_of domains.new.items) v ≡ written places.now (domain_at (sets_of more.items)) (domain_at (sets_of domains.old.items)) v }
+    ensures written { (v : ℕ) → domain_at (sets_of domains.new.items) v
+        ≡ written places.now (domain_at (sets_of more.items)) (domain_at (sets_of domains.old.items)) v }
 {
     let mut more = more;
     for (i, place) in places.iter().enumerate() {

@@ -11,7 +11,8 @@ use Rattle.pp_sld.specs.Walks.{settled_by, walk}
 module _ (clauses : Program) (m : Mode) (call : Row) (root : Config) where
   -- the finding of the leaves up to the first one at which it is settled
   abbrev pub IsWalkFinding : Finding → Type 0
-  IsWalkFinding f = (t : Search) → IsSearch clauses root t → f ≡ finding_of m (met (until (settled_by m call) [] (trace t)))
+  IsWalkFinding f = (t : Search) → IsSearch clauses root t
+      → f ≡ finding_of m (met (until (settled_by m call) [] (trace t)))
 
   -- from the one count to the other there are no more reductions than up to that leaf
   abbrev pub IsWithinWalk : ℕ → ℕ → Type 0

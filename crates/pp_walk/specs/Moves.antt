@@ -14,8 +14,10 @@ use Rattle.pp_walk.specs.Places.{Place}
 -- `step` answers this event and leaves the machine at q
 abbrev pub Stepped : Program → Place → Event → Place → Type 0
 Stepped clauses p Went q = (w : Way) × (next clauses p.here ≡ one w) × Leads w q.here × (q.above ≡ p.above)
-Stepped clauses p (Choice n) q = (ws : List Way) × (next clauses p.here ≡ choices ws) × (n ≡ length ws) × (1 ≤ n) × (q ≡ p)
-Stepped clauses p Failed q = ((next clauses p.here ≡ fails) ⊎ ((next clauses p.here ≡ choices []) ⊎ ((w : Way) × (next clauses p.here ≡ one w) × IsDead w))) × (q ≡ p)
+Stepped clauses p (Choice n) q = (ws : List Way) × (next clauses p.here ≡ choices ws) × (n ≡ length ws) × (1 ≤ n)
+    × (q ≡ p)
+Stepped clauses p Failed q = ((next clauses p.here ≡ fails)
+    ⊎ ((next clauses p.here ≡ choices []) ⊎ ((w : Way) × (next clauses p.here ≡ one w) × IsDead w))) × (q ≡ p)
 Stepped clauses p Answer q = (next clauses p.here ≡ finished) × (q ≡ p)
 Stepped clauses p Loose q = (next clauses p.here ≡ left_loose) × (q ≡ p)
 
@@ -36,7 +38,8 @@ HasChoice clauses c k = (ws : List Way) × (next clauses c ≡ choices ws) × (k
 
 -- the alternative at this place is dead
 abbrev pub IsDeadAt : Program → Config → ℕ → Type 0
-IsDeadAt clauses c k = (ws : List Way) × (next clauses c ≡ choices ws) × (w : Way) × (slice_get ws k ≡ Some w) × IsDead w
+IsDeadAt clauses c k = (ws : List Way) × (next clauses c ≡ choices ws) × (w : Way) × (slice_get ws k ≡ Some w)
+    × IsDead w
 
 -- `choose` takes the alternative at this place, which leads there, or it is dead and the machine stays
 abbrev pub Chose : Program → Place → ℕ → Bool → Place → Type 0
@@ -46,7 +49,8 @@ Chose clauses p k false q = IsDeadAt clauses p.here k × (q ≡ p)
 -- the next place to try: those from the given one on that come before it are dead
 abbrev pub IsNextPlace : Program → Config → ℕ → Option ℕ → Type 0
 IsNextPlace clauses c from None = (k : ℕ) → from ≤ k → HasChoice clauses c k → IsDeadAt clauses c k
-IsNextPlace clauses c from (Some at) = (from ≤ at) × HasChoice clauses c at × ((k : ℕ) → from ≤ k → k < at → IsDeadAt clauses c k)
+IsNextPlace clauses c from (Some at) = (from ≤ at) × HasChoice clauses c at
+    × ((k : ℕ) → from ≤ k → k < at → IsDeadAt clauses c k)
 
 -- the same without a choice: what is above stays
 abbrev pub Committed : Program → Place → ℕ → Bool → Place → Type 0

@@ -1,4 +1,5 @@
--- Where a search machine stands: the configuration here, and the choices that it took to come here, the one taken last first.
+-- Where a search machine stands: the configuration here, and the choices that it took to come here, the one taken last
+-- first.
 use Rattle.std.specs.Prelude.{◌≡◌, ℕ, zero, suc, List, ◌⊎◌, Option, refl}
 use Rattle.std.proofs.Common.{inl, inr}
 use Rattle.std.specs.Coded.{Coded, code_by, coded×, coded⊎, coded_list, coded_option, coded_ℕ, coded_ℤ}
@@ -60,13 +61,19 @@ shape_back (test times) = refl
 shape_back (test indomain) = refl
 
 abbrev pub shape_code : Coded Shape
-shape_code = code_by ((ℕ × ℕ) ⊎ (Domain ⊎ ℕ)) (coded⊎ (coded× coded_ℕ coded_ℕ) (coded⊎ (set.code coded_ℤ) coded_ℕ)) shape_to shape_from shape_back
+shape_code = code_by ((ℕ × ℕ) ⊎ (Domain ⊎ ℕ)) (coded⊎ (coded× coded_ℕ coded_ℕ) (coded⊎ (set.code coded_ℤ) coded_ℕ))
+    shape_to shape_from shape_back
 
 abbrev pub goal_code : Coded (Goal ℕ)
-goal_code = code_by (Shape × Trees ℕ) (coded× shape_code trees_code) (λ g. (g.shape, g.arguments)) (λ p. record { shape = p.0; arguments = p.1 }) (λ _. refl)
+goal_code = code_by (Shape × Trees ℕ) (coded× shape_code trees_code) (λ g. (g.shape, g.arguments))
+    (λ p. record { shape = p.0; arguments = p.1 }) (λ _. refl)
 
 abbrev pub config_code : Coded Config
-config_code = code_by (List (Goal ℕ) × (Trees ℕ × (List (Option Domain) × ℕ))) (coded× (coded_list goal_code) (coded× trees_code (coded× (coded_list (coded_option (set.code coded_ℤ))) coded_ℕ))) (λ c. (c.goals, (c.columns, (c.domains, c.depth)))) (λ p. record { goals = p.0; columns = p.1.0; domains = p.1.1.0; depth = p.1.1.1 }) (λ _. refl)
+config_code = code_by (List (Goal ℕ) × (Trees ℕ × (List (Option Domain) × ℕ)))
+    (coded× (coded_list goal_code) (coded× trees_code (coded× (coded_list (coded_option (set.code coded_ℤ))) coded_ℕ)))
+    (λ c. (c.goals, (c.columns, (c.domains, c.depth))))
+    (λ p. record { goals = p.0; columns = p.1.0; domains = p.1.1.0; depth = p.1.1.1 }) (λ _. refl)
 
 abbrev pub place_code : Coded Place
-place_code = code_by (List Config × Config) (coded× (coded_list config_code) config_code) (λ p. (p.above, p.here)) (λ p. record { above = p.0; here = p.1 }) (λ _. refl)
+place_code = code_by (List Config × Config) (coded× (coded_list config_code) config_code) (λ p. (p.above, p.here))
+    (λ p. record { above = p.0; here = p.1 }) (λ _. refl)

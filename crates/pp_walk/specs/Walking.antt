@@ -14,7 +14,8 @@ use Rattle.pp_walk.specs.Places.{Place}
 use Rattle.pp_walk.specs.declared.stage.Stage.{Stage}
 use Rattle.pp_walk.specs.declared.stage.Stage.TheVariants.{Enter, Try, Back}
 
--- where a walk stands: what it does next, the machine's place, the next alternative of each choice above, the one taken last first, what it found, and what it counted
+-- where a walk stands: what it does next, the machine's place, the next alternative of each choice above, the one taken
+-- last first, what it found, and what it counted
 pub record State : Type 0 where
   pub stage : Stage
   pub place : Place
@@ -95,7 +96,8 @@ module _ (clauses : Program) (m : Mode) (call : Row) where
 
   -- a turn is the last, with this finding and this count
   abbrev pub Ends : State → Finding → ℕ → Type 0
-  Ends old f n = (root : Config) (from : ℕ) → Walked root from old → (f ≡ finding_of m (met (stop root))) × (n ≤ from + reductions (stop root))
+  Ends old f n = (root : Config) (from : ℕ) → Walked root from old
+      → (f ≡ finding_of m (met (stop root))) × (n ≤ from + reductions (stop root))
 
   -- so far it counted no more than the walk makes
   abbrev pub Costs : State → ℕ → Type 0

@@ -35,11 +35,13 @@ pub trait Gatherer {
 
     /// A row that covers only answers that change nothing, where there is one.
     fn answer_cover(&self) -> Option<&Row>
-        ensures { IfSome result (λ cover. (row : RowValue) → IsUnder (call self.now) row → RowCovers cover.now row → add_answer (mode self.now) row (finding self.now) ≡ finding self.now) };
+        ensures { IfSome result (λ cover. (row : RowValue) → IsUnder (call self.now) row → RowCovers cover.now row
+            → add_answer (mode self.now) row (finding self.now) ≡ finding self.now) };
 
     /// A row that covers only loose ends that change nothing, where there is one.
     fn loose_cover(&self) -> Option<&Row>
-        ensures { IfSome result (λ cover. (row : RowValue) → IsUnder (call self.now) row → RowCovers cover.now row → add_loose (mode self.now) row (finding self.now) ≡ finding self.now) };
+        ensures { IfSome result (λ cover. (row : RowValue) → IsUnder (call self.now) row → RowCovers cover.now row
+            → add_loose (mode self.now) row (finding self.now) ≡ finding self.now) };
 
     /// Whether nothing that comes in later can change what the finding comes to.
     fn is_settled(&self) -> bool

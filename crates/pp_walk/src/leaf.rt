@@ -12,7 +12,8 @@ use std::alloc::AllocError;
 fn is_known<M: SearchMachine>(machine: &mut M, cover: Option<&Row>) -> Result<bool, AllocError>
     ensures clauses { M.clauses machine.new ≡ M.clauses machine.old }
     ensures place { M.place machine.new ≡ M.place machine.old }
-    ensures covers { IfOk result (λ is. IsTrue is → MatchOption cover.entry ⊥ (λ w. RowCovers w.now (leaf_row (M.place machine.old).here))) }
+    ensures covers { IfOk result (λ is. IsTrue is
+        → MatchOption cover.entry ⊥ (λ w. RowCovers w.now (leaf_row (M.place machine.old).here))) }
 {
     match cover {
         Some(cover) => machine.is_covered(cover),
@@ -30,7 +31,9 @@ pub fn gather_answer<M: SearchMachine, G: Gatherer>(
     ensures place { M.place machine.new ≡ M.place machine.old }
     ensures mode { G.mode gathered.new ≡ G.mode gathered.old }
     ensures call { G.call gathered.new ≡ G.call gathered.old }
-    ensures added { IfOk result (λ _. G.finding gathered.new ≡ add_answer (G.mode gathered.old) (leaf_row (M.place machine.old).here) (G.finding gathered.old)) }
+    ensures added { IfOk result (λ _.
+        G.finding gathered.new ≡ add_answer (G.mode gathered.old) (leaf_row (M.place machine.old).here)
+        (G.finding gathered.old)) }
 {
     if is_known(machine, gathered.answer_cover())? {
         return Ok(());
@@ -49,7 +52,9 @@ pub fn gather_loose<M: SearchMachine, G: Gatherer>(
     ensures place { M.place machine.new ≡ M.place machine.old }
     ensures mode { G.mode gathered.new ≡ G.mode gathered.old }
     ensures call { G.call gathered.new ≡ G.call gathered.old }
-    ensures added { IfOk result (λ _. G.finding gathered.new ≡ add_loose (G.mode gathered.old) (leaf_row (M.place machine.old).here) (G.finding gathered.old)) }
+    ensures added { IfOk result (λ _.
+        G.finding gathered.new ≡ add_loose (G.mode gathered.old) (leaf_row (M.place machine.old).here)
+        (G.finding gathered.old)) }
 {
     if is_known(machine, gathered.loose_cover())? {
         return Ok(());

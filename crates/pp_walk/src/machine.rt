@@ -27,8 +27,10 @@ pub trait SearchMachine {
         ensures clauses { clauses self.new ≡ clauses self.old }
         ensures stepped { IfOk result (λ e. Stepped (clauses self.old) (place self.old) e (place self.new)) }
         ensures err { OnErr result (place self.new ≡ place self.old) }
-        ensures steps { IfOk result (λ _. steps.new ≡ steps.old + step_cost (next (clauses self.old) (place self.old).here)) }
-        ensures at_most { OnErr result (steps.new ≤ steps.old + step_cost (next (clauses self.old) (place self.old).here)) };
+        ensures steps { IfOk result (λ _.
+            steps.new ≡ steps.old + step_cost (next (clauses self.old) (place self.old).here)) }
+        ensures at_most { OnErr result
+            (steps.new ≤ steps.old + step_cost (next (clauses self.old) (place self.old).here)) };
 
     /// Takes the alternative at this place of the selected goal; false where it fails, and then the machine stands
     /// where it stood.
@@ -56,7 +58,8 @@ pub trait SearchMachine {
     fn commit<L: Ledger>(&mut self, at: u64, steps: &mut Steps<L>) -> Result<bool, AllocError>
         requires { HasChoice (clauses self.old) (place self.old).here at }
         ensures clauses { clauses self.new ≡ clauses self.old }
-        ensures committed { IfOk result (λ goes. Committed (clauses self.old) (place self.old) at goes (place self.new)) }
+        ensures committed { IfOk result
+            (λ goes. Committed (clauses self.old) (place self.old) at goes (place self.new)) }
         ensures err { OnErr result (place self.new ≡ place self.old) }
         ensures steps { IfOk result (λ _. steps.new ≡ steps.old + 1) }
         ensures at_most { OnErr result (steps.new ≤ steps.old + 1) };

@@ -27,7 +27,8 @@ fn first_of(_count: u64) -> Stage
 
 /// What comes after a leaf: nothing, where what was gathered is settled.
 fn after_leaf<G: Gatherer>(gathered: &G) -> Option<Stage>
-    ensures { MatchOption result (settled (G.call gathered.now) (G.finding gathered.now) ≡ true) (λ s. (settled (G.call gathered.now) (G.finding gathered.now) ≡ false) × (s ≡ Back)) }
+    ensures { MatchOption result (settled (G.call gathered.now) (G.finding gathered.now) ≡ true)
+        (λ s. (settled (G.call gathered.now) (G.finding gathered.now) ≡ false) × (s ≡ Back)) }
 {
     if gathered.is_settled() {
         None
@@ -46,8 +47,14 @@ fn enter<M: SearchMachine, G: Gatherer, L: Ledger>(
     ensures clauses { M.clauses machine.new ≡ M.clauses machine.old }
     ensures mode { G.mode gathered.new ≡ G.mode gathered.old }
     ensures call { G.call gathered.new ≡ G.call gathered.old }
-    ensures turns { IfOk result (λ o. (ks : List ℕ) → IsReady (M.clauses machine.old) (G.call gathered.old) Enter (M.place machine.old) ks → Turns (M.clauses machine.old) (G.mode gathered.old) (G.call gathered.old) (state Enter (M.place machine.old) ks (G.finding gathered.old) steps.old) o (M.place machine.new) ks (G.finding gathered.new) steps.new) }
-    ensures costs { OnErr result ((ks : List ℕ) → Costs (M.clauses machine.old) (G.mode gathered.old) (G.call gathered.old) (state Enter (M.place machine.old) ks (G.finding gathered.old) steps.old) steps.new) }
+    ensures turns { IfOk result (λ o. (ks : List ℕ)
+        → IsReady (M.clauses machine.old) (G.call gathered.old) Enter (M.place machine.old) ks
+        → Turns (M.clauses machine.old) (G.mode gathered.old) (G.call gathered.old)
+        (state Enter (M.place machine.old) ks (G.finding gathered.old) steps.old) o (M.place machine.new) ks
+        (G.finding gathered.new) steps.new) }
+    ensures costs { OnErr result ((ks : List ℕ)
+        → Costs (M.clauses machine.old) (G.mode gathered.old) (G.call gathered.old)
+        (state Enter (M.place machine.old) ks (G.finding gathered.old) steps.old) steps.new) }
 {
     match machine.step(steps)? {
         Event::Went => Ok(Some(Stage::Enter)),
@@ -74,8 +81,14 @@ fn attempt<M: SearchMachine, L: Ledger>(
 ) -> Result<Stage, AllocError>
     requires { FitsHere (M.clauses machine.old) (Try from) (M.place machine.old).here }
     ensures clauses { M.clauses machine.new ≡ M.clauses machine.old }
-    ensures goes { IfOk result (λ s. (m : Mode) (call : Row) (f : Finding) → IsReady (M.clauses machine.old) call (Try from) (M.place machine.old) (reverse levels.old.items) → Goes (M.clauses machine.old) m call (state (Try from) (M.place machine.old) (reverse levels.old.items) f steps.old) (state s (M.place machine.new) (reverse levels.new.items) f steps.new)) }
-    ensures costs { OnErr result ((m : Mode) (call : Row) (f : Finding) → Costs (M.clauses machine.old) m call (state (Try from) (M.place machine.old) (reverse levels.old.items) f steps.old) steps.new) }
+    ensures goes { IfOk result (λ s. (m : Mode) (call : Row) (f : Finding)
+        → IsReady (M.clauses machine.old) call (Try from) (M.place machine.old) (reverse levels.old.items)
+        → Goes (M.clauses machine.old) m call
+        (state (Try from) (M.place machine.old) (reverse levels.old.items) f steps.old)
+        (state s (M.place machine.new) (reverse levels.new.items) f steps.new)) }
+    ensures costs { OnErr result ((m : Mode) (call : Row) (f : Finding)
+        → Costs (M.clauses machine.old) m call
+        (state (Try from) (M.place machine.old) (reverse levels.old.items) f steps.old) steps.new) }
 {
     let at = match machine.next_from(from) {
         Next::Nothing => return Ok(Stage::Back),
@@ -96,7 +109,10 @@ fn attempt<M: SearchMachine, L: Ledger>(
 fn retreat<M: SearchMachine>(machine: &mut M, levels: &mut Vec<u64>) -> Option<Stage>
     requires { AreTaken (M.clauses machine.old) (M.place machine.old).above (reverse levels.old.items) }
     ensures clauses { M.clauses machine.new ≡ M.clauses machine.old }
-    ensures turns { (m : Mode) (call : Row) (f : Finding) (n : ℕ) → IsReady (M.clauses machine.old) call Back (M.place machine.old) (reverse levels.old.items) → Turns (M.clauses machine.old) m call (state Back (M.place machine.old) (reverse levels.old.items) f n) result (M.place machine.new) (reverse levels.new.items) f n }
+    ensures turns { (m : Mode) (call : Row) (f : Finding) (n : ℕ)
+        → IsReady (M.clauses machine.old) call Back (M.place machine.old) (reverse levels.old.items)
+        → Turns (M.clauses machine.old) m call (state Back (M.place machine.old) (reverse levels.old.items) f n) result
+        (M.place machine.new) (reverse levels.new.items) f n }
 {
     let next = levels.pop()?;
     machine.back();
@@ -110,12 +126,17 @@ fn turn<M: SearchMachine, G: Gatherer, L: Ledger>(
     gathered: &mut G,
     steps: &mut Steps<L>,
 ) -> Result<Option<Stage>, AllocError>
-    requires { IsReady (M.clauses machine.old) (G.call gathered.old) stage (M.place machine.old) (reverse levels.old.items) }
+    requires { IsReady (M.clauses machine.old) (G.call gathered.old) stage (M.place machine.old)
+        (reverse levels.old.items) }
     ensures clauses { M.clauses machine.new ≡ M.clauses machine.old }
     ensures mode { G.mode gathered.new ≡ G.mode gathered.old }
     ensures call { G.call gathered.new ≡ G.call gathered.old }
-    ensures turns { IfOk result (λ o. Turns (M.clauses machine.old) (G.mode gathered.old) (G.call gathered.old) (state stage (M.place machine.old) (reverse levels.old.items) (G.finding gathered.old) steps.old) o (M.place machine.new) (reverse levels.new.items) (G.finding gathered.new) steps.new) }
-    ensures costs { OnErr result (Costs (M.clauses machine.old) (G.mode gathered.old) (G.call gathered.old) (state stage (M.place machine.old) (reverse levels.old.items) (G.finding gathered.old) steps.old) steps.new) }
+    ensures turns { IfOk result (λ o.
+        Turns (M.clauses machine.old) (G.mode gathered.old) (G.call gathered.old)
+        (state stage (M.place machine.old) (reverse levels.old.items) (G.finding gathered.old) steps.old) o
+        (M.place machine.new) (reverse levels.new.items) (G.finding gathered.new) steps.new) }
+    ensures costs { OnErr result (Costs (M.clauses machine.old) (G.mode gathered.old) (G.call gathered.old)
+        (state stage (M.place machine.old) (reverse levels.old.items) (G.finding gathered.old) steps.old) steps.new) }
 {
     match stage {
         Stage::Enter => enter(machine, gathered, steps),
@@ -134,13 +155,17 @@ pub fn gather<M: SearchMachine, G: Gatherer, L: Ledger>(
     steps: &mut Steps<L>,
 ) -> Result<(), AllocError>
     requires root { (M.place machine.old).above ≡ [] }
-    requires under { (t : Search) → IsSearch (M.clauses machine.old) (M.place machine.old).here t → LeavesUnder (G.call gathered.old) (leaves t) }
+    requires under { (t : Search) → IsSearch (M.clauses machine.old) (M.place machine.old).here t
+        → LeavesUnder (G.call gathered.old) (leaves t) }
     requires empty { G.finding gathered.old ≡ empty (G.mode gathered.old) }
     ensures clauses { M.clauses machine.new ≡ M.clauses machine.old }
     ensures mode { G.mode gathered.new ≡ G.mode gathered.old }
     ensures call { G.call gathered.new ≡ G.call gathered.old }
-    ensures finding { IfOk result (λ _. IsWalkFinding (M.clauses machine.old) (G.mode gathered.old) (G.call gathered.old) (M.place machine.old).here (G.finding gathered.new)) }
-    ensures steps { IsWithinWalk (M.clauses machine.old) (G.mode gathered.old) (G.call gathered.old) (M.place machine.old).here steps.old steps.new }
+    ensures finding { IfOk result (λ _.
+        IsWalkFinding (M.clauses machine.old) (G.mode gathered.old) (G.call gathered.old) (M.place machine.old).here
+        (G.finding gathered.new)) }
+    ensures steps { IsWithinWalk (M.clauses machine.old) (G.mode gathered.old) (G.call gathered.old)
+        (M.place machine.old).here steps.old steps.new }
 {
     let mut levels: Vec<u64> = Vec::new(alloc);
     let mut stage = Stage::Enter;

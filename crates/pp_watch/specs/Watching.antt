@@ -23,7 +23,10 @@ abbrev pub keep_by : Watcher → Keep
 keep_by w = keep_in w.room
 
 abbrev change_code : Coded Change
-change_code = code_by (ℕ × (ℕ × (Row × Row))) (coded× coded_ℕ (coded× coded_ℕ (coded× row_code row_code))) (λ c. (c.turn, (c.goal, (c.given, c.store)))) (λ p. record { turn = p.0; goal = p.1.0; given = p.1.1.0; store = p.1.1.1 }) (λ _. refl)
+change_code = code_by (ℕ × (ℕ × (Row × Row))) (coded× coded_ℕ (coded× coded_ℕ (coded× row_code row_code)))
+    (λ c. (c.turn, (c.goal, (c.given, c.store))))
+    (λ p. record { turn = p.0; goal = p.1.0; given = p.1.1.0; store = p.1.1.1 }) (λ _. refl)
 
 abbrev pub watcher_code : Coded Watcher
-watcher_code = code_by (List Change × Option ℕ) (coded× (coded_list change_code) (coded_option coded_ℕ)) (λ w. (w.noted, w.room)) (λ p. record { noted = p.0; room = p.1 }) (λ _. refl)
+watcher_code = code_by (List Change × Option ℕ) (coded× (coded_list change_code) (coded_option coded_ℕ))
+    (λ w. (w.noted, w.room)) (λ p. record { noted = p.0; room = p.1 }) (λ _. refl)

@@ -18,4 +18,5 @@ recorders words = cond (has_trace words) (record { noted = []; room = None } ∷
 
 -- what was written is the reply to the words and to the text
 abbrev pub IsServed : List Text → Text → Option Text → Option Text → Status → Type 0
-IsServed words text before after s = (new : List Watcher) × Replied (IsReply AreWordsOf words text (recorders words) new) before after s
+IsServed words text before after s = (new : List Watcher)
+    × Replied (IsReply AreWordsOf words text (recorders words) new) before after s
